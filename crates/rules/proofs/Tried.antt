@@ -1,0 +1,332 @@
+-- The definitions tried on the bench tables, before anything is proved over them: each fact follows from the definitions alone, by an explicit
+-- run or by computing. The must-fail edits of this crate are refused here.
+-- Assumes nothing.
+use Prim.Native.Nat.{ℕ, zero, suc, _/_, _%_, _^_, _<_, _≤_}
+use mathlib.Core.Path.{_≡_, refl, subst}
+use mathlib.Core.Bool.{false≢true}
+use mathlib.Core.List.{List, [], _∷_, _++_, map}
+use native.Mathlib.Nat.{div-eq-of-lt}
+use native.Mathlib.Omega.{arith}
+use lib.Pow.{pow-mono}
+use lib.ListN.{length, getD, take, replicate}
+use borrow.Author.Tests.{eqb-true}
+use Rattle.rules.specs.Sets.{has, In, Overlap}
+use Rattle.rules.specs.Table.{Table, op, followers}
+use Rattle.rules.specs.Runs.{mode, IsRun, Runs, plainStart, plainEnd, Source, BoardsRightAt, ValuesRightAt, Right, spaced}
+use Rattle.rules.specs.Rows.{ticks, replyOf, startsOf}
+use Rattle.rules.specs.Verdicts.{Verdict, accepted, refused, Test}
+use Rattle.rules.specs.Bytes.{tableBytes, joined, replyBytes}
+use Rattle.rules.specs.Judge.{judge, judgeNumbers, judgeReply}
+use Rattle.rules.specs.Answers.{put, written, marginTest}
+use Rattle.rules.specs.Bench.{step, oneMode, k1, k1-bytes, k2, k3, k5, k7, k8, k9, k10, k10-touching, row}
+
+-- ---- "Two operations that touch (one ends where the other starts) do not overlap."
+pub touching : Overlap 0 2 2 3 → ⊥
+touching x = omega arith
+
+-- ---- order at one date: in K8 the reader, which starts when the first write of its cycle ends, takes that write ..
+pub k8-source : Source k8 (0 ∷ 0 ∷ []) 0 (plainStart k8 1 1) 0 1
+unfolding has
+k8-source =
+    record {
+      runs = record { cycle = omega arith; isOp = omega arith; inMode = refl };
+      writes = refl;
+      before = omega arith;
+      last = λ u m x w h. h;
+    }
+
+-- .. and not the one of the cycle before, which is not the last
+pub k8-not-before : Source k8 (0 ∷ 0 ∷ []) 0 (plainStart k8 1 1) 2 0 → ⊥
+unfolding has
+k8-not-before x =
+    let h = x .last 0 1 (record { cycle = omega arith; isOp = omega arith; inMode = refl }) refl (omega arith) in omega arith
+
+-- ---- distance: K5 is wrong at 1, by cycles 0 and 2 of the run 0, 1, 0
+run5 : IsRun k5 (0 ∷ 1 ∷ 0 ∷ [])
+unfolding has
+run5 = record { some = omega arith; begins = refl; goes = go }
+  where
+    go : (k : ℕ) → suc k < 3 → In (mode (0 ∷ 1 ∷ 0 ∷ []) (suc k)) (getD (2 ∷ 1 ∷ []) (mode (0 ∷ 1 ∷ 0 ∷ []) k) 0)
+    go zero h = refl
+    go (suc zero) h = refl
+    go (suc (suc k)) h = absurd (omega arith)
+
+pub k5-wrong : BoardsRightAt k5 (spaced 1) → ⊥
+unfolding BoardsRightAt has
+k5-wrong right =
+    right (0 ∷ 1 ∷ 0 ∷ []) run5 0 0 0 2
+    (record { cycle = omega arith; isOp = omega arith; inMode = refl })
+    (record { cycle = omega arith; isOp = omega arith; inMode = refl })
+    (λ e. omega (arith, e .1))
+    (0, refl, refl)
+    (omega arith)
+
+-- ---- a carried value: K7 is wrong at 2, by what mode 0 wrote and mode 2 reads, past the idle mode 1
+run7 : IsRun k7 (0 ∷ 1 ∷ 2 ∷ [])
+unfolding has
+run7 = record { some = omega arith; begins = refl; goes = go }
+  where
+    go : (k : ℕ) → suc k < 3 → In (mode (0 ∷ 1 ∷ 2 ∷ []) (suc k)) (getD (2 ∷ 4 ∷ 1 ∷ []) (mode (0 ∷ 1 ∷ 2 ∷ []) k) 0)
+    go zero h = refl
+    go (suc zero) h = refl
+    go (suc (suc k)) h = absurd (omega arith)
+
+k7-source : Source k7 (0 ∷ 1 ∷ 2 ∷ []) 0 (plainStart k7 1 2) 0 0
+unfolding has
+k7-source =
+    record {
+      runs = record { cycle = omega arith; isOp = omega arith; inMode = refl };
+      writes = refl;
+      before = omega arith;
+      last = go;
+    }
+  where
+    go : (u m : ℕ) → Runs k7 (0 ∷ 1 ∷ 2 ∷ []) m u → In 0 (op k7 u .writes) → plainEnd k7 u m ≤ plainStart k7 1 2
+        → plainEnd k7 u m ≤ plainEnd k7 0 0
+    go zero zero x w h = omega arith
+    go zero (suc zero) x w h = absurd (false≢true (x .inMode))
+    go zero (suc (suc zero)) x w h = absurd (false≢true (x .inMode))
+    go zero (suc (suc (suc m))) x w h = absurd (omega (arith, x .cycle))
+    go (suc zero) m x w h = absurd (false≢true w)
+    go (suc (suc u)) m x w h = absurd (false≢true w)
+
+pub k7-wrong : ValuesRightAt k7 (spaced 2) → ⊥
+unfolding ValuesRightAt has
+k7-wrong right =
+    let h = right (0 ∷ 1 ∷ 2 ∷ []) run7 0 0 0 1 2 (record { cycle = omega arith; isOp = omega arith; inMode = refl }) refl k7-source in omega arith
+
+-- ---- modes that no run reaches: K9 is right at 1
+only-one : (m : ℕ) → In m 2 → m ≡ 1
+unfolding has
+only-one zero h = absurd (false≢true h)
+only-one (suc zero) h = refl
+only-one (suc (suc m)) h =
+    let far : 2 ^ 2 ≤ 2 ^ suc (suc m) = pow-mono {i = 2} {j = suc (suc m)} (omega arith) in
+    absurd (omega (arith, eqb-true (2 / 2 ^ suc (suc m) % 2) 1 h, div-eq-of-lt {n = 2} {m = 2 ^ suc (suc m)} (omega arith)))
+
+k9-mode : (r : List ℕ) → IsRun k9 r → (k : ℕ) → k < length r → mode r k ≡ 1
+k9-mode r run zero h = only-one (mode r 0) (run .begins)
+k9-mode r run (suc k) h =
+    only-one (mode r (suc k))
+    (subst (λ (a : ℕ). In (mode r (suc k)) (followers k9 a)) (k9-mode r run k (omega arith)) (run .goes k h))
+
+k9-idle : (r : List ℕ) → IsRun k9 r → (k i : ℕ) → Runs k9 r k i → ⊥
+unfolding has
+k9-idle r run k zero x = false≢true (subst (λ (a : ℕ). In a 1) (k9-mode r run k (x .cycle)) (x .inMode))
+k9-idle r run k (suc i) x = omega (arith, x .isOp)
+
+pub k9-right : Right k9 1
+unfolding BoardsRightAt ValuesRightAt
+k9-right =
+    record {
+      boards = λ r run i k j l x y ne b lap. k9-idle r run k i x;
+      values = λ r run c i k j l y v s. absurd (k9-idle r run l j y);
+    }
+
+-- ---- fold and unfold, K2 and K3
+pub k2-folded : replyOf k2 2 ≡ record { period = ticks 2; rows = row 0 0 ∷ row 0 1 ∷ row 0 2 ∷ [] }
+unfolding replyOf
+k2-folded = refl
+
+pub k3-folded : replyOf k3 4 ≡ record { period = ticks 4; rows = row 0 0 ∷ row 2 0 ∷ row 0 1 ∷ [] }
+unfolding replyOf
+k3-folded = refl
+
+pub k3-unfolded : startsOf (replyOf k3 4) ≡ ticks 0 ∷ ticks 2 ∷ ticks 4 ∷ []
+unfolding replyOf startsOf
+k3-unfolded = refl
+
+-- ---- the reply of document 01's example
+pub k1-reply : replyBytes (replyOf k1 3) ≡ 17 ∷ 0 ∷ 2 ∷ 0 ∷ 3 ∷ 18 ∷ 0 ∷ 4 ∷ 0 ∷ 1 ∷ 0 ∷ 0 ∷ []
+unfolding replyBytes replyOf
+k1-reply = refl
+
+-- ---- bytes and the judge
+pub k1-written : tableBytes k1 ≡ k1-bytes
+unfolding tableBytes k1-bytes
+k1-written = refl
+
+-- K1 with another length, another duration, its operation n times
+k1-with : ℕ → ℕ → ℕ → List ℕ
+unfolding tableBytes
+k1-with p d n = tableBytes (oneMode p 1 0 (replicate n (step 1 d 1 0 0 1)))
+
+-- document 01's own cases, and what is easily got wrong: the order of the tests within a field and between fields
+pub inputs : List (List ℕ)
+unfolding k1-bytes k1-with tableBytes
+inputs =
+    []
+    ∷ (255 ∷ 0 ∷ [])
+    ∷ (255 ∷ 0 ∷ 0 ∷ [])
+    ∷ (1 ∷ 0 ∷ 2 ∷ [])
+    ∷ (1 ∷ 0 ∷ 3 ∷ [])
+    ∷ (1 ∷ 0 ∷ 2 ∷ 0 ∷ 0 ∷ [])
+    ∷ take 5 k1-bytes
+    ∷ (take 11 k1-bytes ++ (4 ∷ 0 ∷ 18 ∷ []))
+    ∷ take 22 k1-bytes
+    ∷ take 42 k1-bytes
+    ∷ (k1-bytes ++ (0 ∷ 0 ∷ []))
+    ∷ (k1-bytes ++ (0 ∷ 0 ∷ 0 ∷ []))
+    ∷ (k1-bytes ++ (4 ∷ 0 ∷ 0 ∷ []))
+    ∷ (k1-bytes ++ (4 ∷ 0 ∷ 18 ∷ []))
+    ∷ k1-with 1001 3 1
+    ∷ k1-with 1000 3 1
+    ∷ k1-with 5 5 1
+    ∷ k1-with 5 4 1
+    ∷ k1-with 5 3 2
+    ∷ (k1-with 5 3 2 ++ (0 ∷ []))
+    ∷ k1-with 5 3 32
+    ∷ k1-with 5 3 33
+    ∷ (k1-with 5 3 32 ++ (4 ∷ []))
+    ∷ (k1-with 5 3 32 ++ (5 ∷ 0 ∷ 1 ∷ 0 ∷ []))
+    ∷ tableBytes k10
+    ∷ tableBytes k10-touching
+    ∷ []
+
+pub verdicts : List (Verdict Table)
+verdicts =
+    refused 2 0 0
+    ∷ refused 1 0 0
+    ∷ refused 2 0 0
+    ∷ refused 1 0 0
+    ∷ refused 3 0 0
+    ∷ refused 4 0 0
+    ∷ refused 2 5 0
+    ∷ refused 2 11 0
+    ∷ refused 2 22 0
+    ∷ refused 1 22 0
+    ∷ refused 1 43 0
+    ∷ refused 2 43 0
+    ∷ refused 3 43 0
+    ∷ refused 1 43 0
+    ∷ refused 4 0 0
+    ∷ accepted (oneMode 1000 1 0 (step 1 3 1 0 0 1 ∷ []))
+    ∷ refused 4 22 0
+    ∷ accepted (oneMode 5 1 0 (step 1 4 1 0 0 1 ∷ []))
+    ∷ refused 6 0 1
+    ∷ refused 1 64 0
+    ∷ refused 6 0 1
+    ∷ refused 5 694 0
+    ∷ refused 1 694 0
+    ∷ refused 2 694 0
+    ∷ refused 6 0 1
+    ∷ accepted k10-touching
+    ∷ []
+
+pub judged : map judge inputs ≡ verdicts
+unfolding judge inputs verdicts
+judged = refl
+
+-- "operations 0 and 1 race, 2 and 3 clash": all of CLASH comes before RACE
+pub clash-first : judge (tableBytes (oneMode 4 4 1 (step 0 2 1 0 1 1 ∷ step 1 2 2 1 0 1 ∷ step 0 2 4 0 0 1 ∷ step 1 2 4 0 0 1 ∷ []))) ≡ refused 6 2 3
+unfolding judge tableBytes
+clash-first = refl
+
+pub race-next : judge (tableBytes (oneMode 4 4 1 (step 0 2 1 0 1 1 ∷ step 1 2 2 1 0 1 ∷ step 0 2 4 0 0 1 ∷ step 2 2 4 0 0 1 ∷ []))) ≡ refused 7 0 1
+unfolding judge tableBytes
+race-next = refl
+
+-- ---- a table handed over as numbers: K1's with another length, boards, first modes, follower words, operations' numbers
+handed : ℕ → ℕ → ℕ → List ℕ → List ℕ → Verdict Table
+unfolding judgeNumbers
+handed p boards first follow ops =
+    judgeNumbers (record { len = p; boards = boards; cells = 0; modes = 1; first = first; follow = follow; ops = ops })
+
+one-op : List ℕ
+one-op = 1 ∷ 3 ∷ 1 ∷ 0 ∷ 0 ∷ 1 ∷ []
+
+pub handed-verdicts : List (Verdict Table)
+unfolding handed one-op joined
+handed-verdicts =
+    handed 5 1 1 (1 ∷ []) one-op
+    ∷ handed 65541 1 1 (1 ∷ []) one-op
+    ∷ handed 5 257 1 (1 ∷ []) one-op
+    ∷ handed 5 1 0 [] one-op
+    ∷ handed 5 1 0 (1 ∷ []) one-op
+    ∷ handed 5 1 1 (1 ∷ []) []
+    ∷ handed 5 1 1 (1 ∷ []) (70000 ∷ 0 ∷ 1 ∷ [])
+    ∷ handed 5 1 1 (1 ∷ []) (65537 ∷ 3 ∷ 1 ∷ 0 ∷ 0 ∷ 1 ∷ [])
+    ∷ handed 5 1 1 (1 ∷ []) (one-op ++ (1 ∷ []))
+    ∷ handed 5 1 1 (1 ∷ []) (joined (λ (n : ℕ). one-op) (replicate 32 0) ++ (1 ∷ []))
+    ∷ []
+
+pub numbers-judged : handed-verdicts
+    ≡ accepted k1
+    ∷ refused 4 0 0
+    ∷ refused 4 5 0
+    ∷ refused 3 11 0
+    ∷ refused 4 11 0
+    ∷ refused 2 22 0
+    ∷ refused 1 22 0
+    ∷ refused 4 22 0
+    ∷ refused 1 43 0
+    ∷ refused 5 694 0
+    ∷ []
+unfolding handed-verdicts
+numbers-judged = refl
+
+-- ---- a reply read for unfolding: K1's; a period of 1001; a folded start that is not below it; an unfolded start of 1000; no row; 33 rows
+pub reply-inputs : List (List ℕ)
+unfolding joined
+reply-inputs =
+    (17 ∷ 0 ∷ 2 ∷ 0 ∷ 3 ∷ 18 ∷ 0 ∷ 4 ∷ 0 ∷ 1 ∷ 0 ∷ 0 ∷ [])
+    ∷ (17 ∷ 0 ∷ 2 ∷ 3 ∷ 233 ∷ [])
+    ∷ (17 ∷ 0 ∷ 2 ∷ 0 ∷ 3 ∷ 18 ∷ 0 ∷ 4 ∷ 0 ∷ 3 ∷ 0 ∷ 0 ∷ [])
+    ∷ (17 ∷ 0 ∷ 2 ∷ 0 ∷ 3 ∷ 18 ∷ 0 ∷ 4 ∷ 0 ∷ 1 ∷ 1 ∷ 77 ∷ [])
+    ∷ (17 ∷ 0 ∷ 2 ∷ 3 ∷ 232 ∷ 18 ∷ 0 ∷ 4 ∷ 0 ∷ 0 ∷ 255 ∷ 255 ∷ [])
+    ∷ (17 ∷ 0 ∷ 2 ∷ 0 ∷ 3 ∷ [])
+    ∷ (17 ∷ 0 ∷ 2 ∷ 0 ∷ 3 ∷ joined (λ (n : ℕ). 18 ∷ 0 ∷ 4 ∷ 0 ∷ 1 ∷ 0 ∷ 0 ∷ []) (replicate 33 0))
+    ∷ []
+
+pub replies-judged : map judgeReply reply-inputs
+    ≡ accepted (record { period = ticks 3; rows = row 1 0 ∷ [] })
+    ∷ refused 4 0 0
+    ∷ refused 4 5 0
+    ∷ refused 4 5 0
+    ∷ refused 4 5 0
+    ∷ refused 2 5 0
+    ∷ refused 5 229 0
+    ∷ []
+unfolding judgeReply reply-inputs
+replies-judged = refl
+
+-- ---- a lent buffer: "K1 into 11 bytes: refused 8 12 0; into 12 accepted"; the rest of a longer one stays
+pub k1-no-room : put (replyBytes (replyOf k1 3)) (replicate 11 9) ≡ record { answer = refused 8 12 0; buffer = replicate 11 9 }
+unfolding put replyBytes replyOf
+k1-no-room = refl
+
+pub k1-room : put (replyBytes (replyOf k1 3)) (replicate 12 9) ≡ record { answer = accepted 12; buffer = replyBytes (replyOf k1 3) }
+unfolding put replyBytes replyOf
+k1-room = refl
+
+pub k1-rest : put (replyBytes (replyOf k1 3)) (replicate 14 9)
+    ≡ record { answer = accepted 12; buffer = replyBytes (replyOf k1 3) ++ (9 ∷ 9 ∷ []) }
+unfolding put replyBytes replyOf
+k1-rest = refl
+
+pub kept : written (refused 4 22 0) (replicate 3 9) ≡ record { answer = refused 4 22 0; buffer = replicate 3 9 }
+unfolding written
+kept = refl
+
+-- ---- questions about K1: "i, j, n, q, places 0 to 3"
+ask : ℕ → ℕ → ℕ → ℕ → Test
+unfolding marginTest
+ask = marginTest k1
+
+pub questions : List Test
+unfolding ask
+questions =
+    ask 0 0 1 5 ∷ ask 0 0 1000 1 ∷ ask 1 1 0 0 ∷ ask 0 1 0 0 ∷ ask 0 0 0 0 ∷ ask 0 0 1001 6 ∷ ask 0 0 1 0 ∷ ask 0 0 1 6 ∷ []
+
+pub questions-asked : questions
+    ≡ accepted tt
+    ∷ accepted tt
+    ∷ refused 9 0 0
+    ∷ refused 9 1 0
+    ∷ refused 9 2 0
+    ∷ refused 9 2 0
+    ∷ refused 9 3 0
+    ∷ refused 9 3 0
+    ∷ []
+unfolding questions
+questions-asked = refl

@@ -1,0 +1,93 @@
+-- The whole answer of each public function, for every input: what is returned, and every byte of the lent buffer afterwards.
+-- Assumes nothing.
+use Prim.Native.Nat.{ℕ}
+use mathlib.Core.Path.{_≡_}
+use mathlib.Core.Bool.{Bool, true, cond, not, _&&_}
+use mathlib.Core.List.{List, _++_}
+use mathlib.Core.Logic.{_↔_}
+use lib.Dec.{leb, ltb}
+use lib.IntN.{ℤ}
+use lib.ListN.{length, drop}
+use Rattle.rules.specs.Table.{Table, nops}
+use Rattle.rules.specs.Runs.{Right, IsPeriod}
+use Rattle.rules.specs.Rows.{Reply, replyOf, startsOf, margin}
+use Rattle.rules.specs.Verdicts.{Verdict, accepted, refused, ROOM, ASK, Test, refuseIf, _then_, onwards}
+use Rattle.rules.specs.Bytes.{tableBytes, replyBytes, startsBytes}
+use Rattle.rules.specs.Judge.{judge, Numbers, judgeNumbers, judgeReply}
+
+-- ---- a lent buffer
+
+-- what a function that writes returns, the number of bytes written or a refusal, and what the buffer holds then
+pub record Written : Type 0 where
+  pub answer : Verdict ℕ
+  pub buffer : List ℕ
+
+-- ROOM: "output buffer too short", a: "bytes needed". "Success writes the stated bytes from the front and leaves the rest of the buffer."
+unfoldable pub put : List ℕ → List ℕ → Written
+put bytes out =
+    cond (ltb (length out) (length bytes))
+    (record { answer = refused ROOM (length bytes) 0; buffer = out })
+    (record { answer = accepted (length bytes); buffer = bytes ++ drop (length bytes) out })
+
+-- "A refusal returns its number, a and b, and no output byte changes."
+unfoldable pub written : Verdict (List ℕ) → List ℕ → Written
+unfolding put
+written (accepted bytes) out = put bytes out
+written (refused number a b) out = record { answer = refused number a b; buffer = out }
+
+-- ---- an answer that is a fact about what was accepted
+
+-- v is the refusal, or an answer y with P x y to the x that was accepted
+unfoldable pub Answers : {A B : Type 0} → (A → B → Type 0) → Verdict A → Verdict B → Type 0
+Answers {B = B} P (accepted x) v = (y : B) × P x y × (v ≡ accepted y)
+Answers P (refused number a b) v = v ≡ refused number a b
+
+-- ---- plan: a table's bytes in, its reply's bytes out
+
+-- R is T folded at its period
+abbrev pub Planned : Table → Reply → Type 0
+Planned T R = (q : ℕ) × IsPeriod T q × (R ≡ replyOf T q)
+
+-- the reply to a table's bytes
+abbrev pub ReplyTo : List ℕ → Verdict Reply → Type 0
+ReplyTo s v = Answers Planned (judge s) v
+
+-- the bytes of what is accepted
+unfoldable pub bytesOf : {A : Type 0} → (A → List ℕ) → Verdict A → Verdict (List ℕ)
+unfolding onwards
+bytesOf f v = onwards v (λ x. accepted (f x))
+
+abbrev pub IsPlan : List ℕ → List ℕ → Written → Type 0
+IsPlan s out w = (v : Verdict Reply) × ReplyTo s v × (w ≡ written (bytesOf replyBytes v) out)
+
+-- ---- unfold: a reply's bytes in, the starts' bytes out
+abbrev pub IsUnfold : List ℕ → List ℕ → Written → Type 0
+IsUnfold s out w = w ≡ written (bytesOf (λ R. startsBytes (startsOf R)) (judgeReply s)) out
+
+-- ---- write a table from numbers
+abbrev pub IsWrite : Numbers → List ℕ → Written → Type 0
+IsWrite N out w = w ≡ written (bytesOf tableBytes (judgeNumbers N)) out
+
+-- ---- questions. ASK: "an operation number, distance or period asked for is outside its range", a: "place of the first bad one"
+unfoldable pub asked : Bool → ℕ → Test
+unfolding refuseIf
+asked ok place = refuseIf (not ok) ASK place 0
+
+abbrev pub periodAsked : Table → ℕ → ℕ → Test
+periodAsked T q place = asked (leb 1 q && leb q (T .len)) place
+
+-- margin: "the order is i, j, n, q, places 0 to 3"; "n is 1 to 1000 and q is 1 to p"
+unfoldable pub marginTest : Table → ℕ → ℕ → ℕ → ℕ → Test
+unfolding asked _then_
+marginTest T i j n q =
+    asked (ltb i (nops T)) 0 then asked (ltb j (nops T)) 1 then asked (leb 1 n && leb n 1000) 2 then periodAsked T q 3
+
+abbrev pub IsMargin : List ℕ → ℕ → ℕ → ℕ → ℕ → Verdict ℤ → Type 0
+IsMargin s i j n q v = v ≡ onwards (judge s) (λ T. marginTest T i j n q then accepted (margin T i j n q))
+
+-- is q right: "q is place 0"
+abbrev pub RightSaid : ℕ → Table → Bool → Type 0
+RightSaid q T said = (said ≡ true) ↔ Right T q
+
+abbrev pub IsRight : List ℕ → ℕ → Verdict Bool → Type 0
+IsRight s q v = Answers (RightSaid q) (onwards (judge s) (λ T. periodAsked T q 0 then accepted T)) v

@@ -1,0 +1,263 @@
+-- Document 01, "Numbers of refusal": the verdict on a table's bytes, on a table handed over as numbers, and on a reply's bytes.
+-- Assumes nothing.
+use Prim.Native.Nat.{ℕ, zero, suc, _+_, _-_, _*_, _^_}
+use mathlib.Core.Bool.{Bool, cond, not, _&&_, _||_}
+use mathlib.Core.List.{List, [], _∷_}
+use lib.Dec.{leb, ltb, eqb}
+use lib.Bits.{bitOr}
+use lib.ListN.{length, getD, drop}
+use Rattle.rules.specs.Sets.{shares, overlaps}
+use Rattle.rules.specs.Table.{Op, Table, nops, op, endOf, heldTo}
+use Rattle.rules.specs.Rows.{Row, Reply, ticks, unfoldAt}
+use Rattle.rules.specs.Verdicts.{Verdict, accepted, SHORT, ORDER, SIZE, RANGE, MANY, CLASH, RACE, Test, refuseIf, _then_, onwards, more, each}
+use Rattle.rules.specs.Bytes.{num8, num16, num32, words, opAt, rowAt}
+
+-- ---- one field. "Within one: header complete, tag due, not a 33rd, length, value complete, ranges."
+
+-- ORDER: "input ends with a needed field missing"
+unfoldable pub needed : List ℕ → ℕ → Test
+unfolding refuseIf
+needed s at = refuseIf (leb (length s) at) ORDER at 0
+
+-- SHORT: "input ends inside a field's header or value"
+unfoldable pub header : List ℕ → ℕ → Test
+unfolding refuseIf
+header s at = refuseIf (ltb (length s) (at + 3)) SHORT at 0
+
+-- ORDER: "a tag that is not due"
+unfoldable pub due : List ℕ → ℕ → ℕ → Test
+unfolding refuseIf
+due s at tag = refuseIf (not (eqb (num8 s at) tag)) ORDER at 0
+
+-- MANY: "a 33rd operation"; `left` more may come
+unfoldable pub notMany : ℕ → ℕ → Test
+unfolding refuseIf
+notMany at left = refuseIf (eqb left 0) MANY at 0
+
+-- SIZE: "length is not the tag's length"
+unfoldable pub sized : List ℕ → ℕ → ℕ → Test
+unfolding refuseIf
+sized s at size = refuseIf (not (eqb (num16 s (at + 1)) size)) SIZE at 0
+
+-- SHORT again, for the value
+unfoldable pub complete : List ℕ → ℕ → ℕ → Test
+unfolding refuseIf
+complete s at size = refuseIf (ltb (length s) (at + 3 + size)) SHORT at 0
+
+-- RANGE: "a number or set outside its range above"
+unfoldable pub ranged : Bool → ℕ → Test
+unfolding refuseIf
+ranged ok at = refuseIf (not ok) RANGE at 0
+
+-- a field that is there once
+unfoldable pub fieldTest : List ℕ → ℕ → ℕ → ℕ → Bool → Test
+unfolding needed header due sized complete ranged _then_
+fieldTest s at tag size ok =
+    needed s at then header s at then due s at tag then sized s at size then complete s at size then ranged ok at
+
+-- a field that may be repeated
+unfoldable pub repeatTest : List ℕ → ℕ → ℕ → ℕ → ℕ → Bool → Test
+unfolding header due notMany sized complete ranged _then_
+repeatTest s at left tag size ok =
+    header s at then due s at tag then notMany at left then sized s at size then complete s at size then ranged ok at
+
+-- the repeated fields from a place to the end of the input, when `left` more may come
+module _ {A : Type 0} (tag size : ℕ) (ok : A → Bool) (value : List ℕ → ℕ → A) where
+  unfoldable pub fieldsFrom : List ℕ → ℕ → ℕ → Verdict (List A)
+  unfolding repeatTest _then_ more
+  fieldsFrom s zero at =
+      cond (leb (length s) at) (accepted []) (repeatTest s at 0 tag size (ok (value s at)) then accepted [])
+  fieldsFrom s (suc left) at =
+      cond (leb (length s) at) (accepted [])
+      (repeatTest s at (suc left) tag size (ok (value s at)) then more (value s at) (fieldsFrom s left (at + 3 + size)))
+
+-- ---- ranges
+
+unfoldable pub lenOk : ℕ → Bool
+lenOk p = leb 1 p && leb p 1000
+
+unfoldable pub countsOk : ℕ → ℕ → ℕ → Bool
+countsOk boards cells modes = leb 1 boards && (leb boards 16 && (leb cells 32 && (leb 1 modes && leb modes 32)))
+
+-- "not empty", and "A set names nothing beyond the table's counts."
+unfoldable pub setOk : ℕ → ℕ → Bool
+setOk n s = ltb 0 s && ltb s (2 ^ n)
+
+unfoldable pub eachSetOk : ℕ → List ℕ → Bool
+unfolding setOk
+eachSetOk n [] = Bool.true
+eachSetOk n (s ∷ ss) = setOk n s && eachSetOk n ss
+
+-- an operation, with the length and the counts of T
+unfoldable pub opOk : Table → Op → Bool
+unfolding setOk
+opOk T o =
+    leb 1 (o .dur)
+    && (leb (o .start + o .dur) (T .len)
+    && (setOk (T .boards) (o .boards)
+    && (ltb (o .reads) (2 ^ T .cells) && (ltb (o .writes) (2 ^ T .cells) && setOk (T .modes) (o .modes)))))
+
+-- ---- CLASH and RACE
+
+-- the tests of Clash and Race
+unfoldable pub clashes : Op → Op → Bool
+unfolding shares overlaps
+clashes o u =
+    shares (o .boards) (u .boards)
+    && (shares (o .modes) (u .modes) && overlaps (o .start) (heldTo o) (u .start) (heldTo u))
+
+unfoldable pub races : Op → Op → Bool
+unfolding shares overlaps
+races o u =
+    shares (o .modes) (u .modes)
+    && (overlaps (o .start) (endOf o) (u .start) (endOf u)
+    && (shares (o .writes) (bitOr (u .reads) (u .writes)) || shares (o .reads) (u .writes)))
+
+-- "over all pairs, by lower number and then higher"; a, b: "lower and higher operation number"
+unfoldable pub pairsTest : (Op → Op → Bool) → ℕ → Table → Test
+unfolding each refuseIf
+pairsTest hit number T =
+    each (λ i. each (λ j. refuseIf (hit (op T i) (op T j)) number i j) (suc i) (nops T - suc i)) 0 (nops T)
+
+-- "Then CLASH over all pairs ..; then RACE likewise"
+unfoldable pub judgeWhole : Table → Verdict Table
+unfolding pairsTest clashes races _then_
+judgeWhole T = pairsTest clashes CLASH T then pairsTest races RACE T then accepted T
+
+-- ---- a table's bytes
+
+-- what stands before the operations, as the bytes have it
+unfoldable pub headOf : List ℕ → Table
+unfolding words
+headOf s =
+    record {
+      len = num16 s 3;
+      boards = num8 s 8;
+      cells = num8 s 9;
+      modes = num8 s 10;
+      first = num32 s 14;
+      follow = words s 18 (num8 s 10);
+      ops = [];
+    }
+
+-- a head with its operations
+abbrev pub withOps : Table → List Op → Table
+withOps T os =
+    record {
+      len = T .len;
+      boards = T .boards;
+      cells = T .cells;
+      modes = T .modes;
+      first = T .first;
+      follow = T .follow;
+      ops = os;
+    }
+
+-- where the operations begin: behind the fields 01 (5 bytes), 02 (6) and 03 (7, and 4 for each mode)
+abbrev pub opsPlace : ℕ → ℕ
+opsPlace modes = 18 + 4 * modes
+
+-- "Table fields, in this order and no other"
+unfoldable pub headTest : List ℕ → Test
+unfolding headOf fieldTest lenOk countsOk setOk eachSetOk needed _then_
+headTest s =
+    let T = headOf s in
+    fieldTest s 0 1 2 (lenOk (T .len))
+    then fieldTest s 5 2 3 (countsOk (T .boards) (T .cells) (T .modes))
+    then fieldTest s 11 3 (4 + 4 * T .modes) (setOk (T .modes) (T .first) && eachSetOk (T .modes) (T .follow))
+    then needed s (opsPlace (T .modes))
+
+-- the operations' fields, 32 at most
+unfoldable pub opsFrom : Table → List ℕ → ℕ → ℕ → Verdict (List Op)
+unfolding fieldsFrom opOk
+opsFrom T = fieldsFrom 4 18 (opOk T) opAt
+
+unfoldable pub judge : List ℕ → Verdict Table
+unfolding headTest headOf opsFrom judgeWhole onwards _then_
+judge s =
+    headTest s
+    then onwards (opsFrom (headOf s) s 32 (opsPlace (headOf s .modes))) (λ os. judgeWhole (withOps (headOf s) os))
+
+-- ---- a table handed over as numbers: "six for each operation, in layout order"
+pub record Numbers : Type 0 where
+  pub len : ℕ
+  pub boards : ℕ
+  pub cells : ℕ
+  pub modes : ℕ
+  pub first : ℕ
+  pub follow : List ℕ
+  pub ops : List ℕ
+
+-- the operation whose six numbers stand first
+abbrev pub opOf : List ℕ → Op
+opOf ns =
+    record {
+      start = getD ns 0 0;
+      dur = getD ns 1 0;
+      boards = getD ns 2 0;
+      reads = getD ns 3 0;
+      writes = getD ns 4 0;
+      modes = getD ns 5 0;
+    }
+
+-- what stands before the operations
+abbrev pub headOfNumbers : Numbers → Table
+headOfNumbers N =
+    record {
+      len = N .len;
+      boards = N .boards;
+      cells = N .cells;
+      modes = N .modes;
+      first = N .first;
+      follow = N .follow;
+      ops = [];
+    }
+
+-- "judged as if first written in this layout and then read": each field at the offset that it would have. "A wrong count of follower words
+-- is SIZE, a number too large for its field RANGE, an operation with numbers missing SHORT." A number that is too large for its field is
+-- outside its range too, since every range fits its field.
+unfoldable pub numbersTest : Numbers → Test
+unfolding ranged lenOk countsOk setOk eachSetOk refuseIf _then_
+numbersTest N =
+    ranged (lenOk (N .len)) 0
+    then ranged (countsOk (N .boards) (N .cells) (N .modes)) 5
+    then refuseIf (not (eqb (length (N .follow)) (N .modes))) SIZE 11 0
+    then ranged (setOk (N .modes) (N .first) && eachSetOk (N .modes) (N .follow)) 11
+    then refuseIf (eqb (length (N .ops)) 0) ORDER (opsPlace (N .modes)) 0
+
+-- the operations' numbers, when `left` more operations may come and the next would be written at a place
+unfoldable pub opsOfNumbers : Table → List ℕ → ℕ → ℕ → Verdict (List Op)
+unfolding notMany refuseIf ranged opOk _then_ more
+opsOfNumbers T ns zero at = cond (eqb (length ns) 0) (accepted []) (notMany at 0 then accepted [])
+opsOfNumbers T ns (suc left) at =
+    cond (eqb (length ns) 0) (accepted [])
+    (refuseIf (ltb (length ns) 6) SHORT at 0
+    then ranged (opOk T (opOf ns)) at
+    then more (opOf ns) (opsOfNumbers T (drop 6 ns) left (at + 21)))
+
+unfoldable pub judgeNumbers : Numbers → Verdict Table
+unfolding numbersTest opsOfNumbers judgeWhole onwards _then_
+judgeNumbers N =
+    numbersTest N
+    then onwards
+    (opsOfNumbers (headOfNumbers N) (N .ops) 32 (opsPlace (N .modes)))
+    (λ os. judgeWhole (withOps (headOfNumbers N) os))
+
+-- ---- a reply's bytes: "the period is 1 to 1000, each folded start is below it, each unfolded start is at most 999, and there are 1 to 32
+-- operations"
+unfoldable pub rowOk : ℕ → Row → Bool
+rowOk q r = ltb (r .start .number) q && leb (unfoldAt (ticks q) r .number) 999
+
+unfoldable pub replyTest : List ℕ → Test
+unfolding fieldTest lenOk needed _then_
+replyTest s = fieldTest s 0 17 2 (lenOk (num16 s 3)) then needed s 5
+
+unfoldable pub rowsFrom : ℕ → List ℕ → ℕ → ℕ → Verdict (List Row)
+unfolding fieldsFrom rowOk
+rowsFrom q = fieldsFrom 18 4 (rowOk q) rowAt
+
+unfoldable pub judgeReply : List ℕ → Verdict Reply
+unfolding replyTest rowsFrom onwards _then_
+judgeReply s =
+    replyTest s
+    then onwards (rowsFrom (num16 s 3) s 32 5) (λ rs. accepted (record { period = ticks (num16 s 3); rows = rs }))

@@ -1,0 +1,10 @@
+pub mod Sets
+pub mod Table
+pub mod Runs
+pub mod Better
+pub mod Rows
+pub mod Verdicts
+pub mod Bytes
+pub mod Judge
+pub mod Answers
+pub mod Bench

@@ -1,0 +1,148 @@
+-- Every public answer is there for every input, and there is only one.
+-- Assumes nothing.
+use Prim.Native.Nat.{ℕ, _<_, _≤_}
+use mathlib.Core.Path.{_≡_, refl, sym, ap, _∙_}
+use mathlib.Core.Bool.{Bool, true, false, not, _&&_}
+use mathlib.Core.List.{List, _++_}
+use native.Mathlib.Omega.{arith}
+use native.Mathlib.Decide.{decLt}
+use lib.Dec.{leb}
+use lib.IntN.{ℤ}
+use lib.ListN.{length, take, drop}
+use lib.Seq.{take-append-seam}
+use borrow.Author.Tests.{lt-ltb, le-ltb, not-false}
+use Rattle.rules.specs.Table.{Table, Accepted}
+use Rattle.rules.specs.Rows.{Reply, replyOf}
+use Rattle.rules.specs.Verdicts.{Verdict, accepted, refused, ASK, ROOM, _then_, onwards}
+use Rattle.rules.specs.Bytes.{replyBytes}
+use Rattle.rules.specs.Judge.{judge, Numbers}
+use Rattle.rules.specs.Answers.{Written, put, written, Answers, Planned, ReplyTo, bytesOf, IsPlan, IsUnfold, IsWrite, asked, periodAsked, IsMargin, RightSaid, IsRight}
+use Rattle.theory.specs.Tests.{rightb, periodOf, planOf}
+use Rattle.theory.proofs.Says.{says-leb, says-and}
+use Rattle.theory.proofs.Verdicts.{never-refused, passed, then-first, then-rest, onwards-first}
+use Rattle.theory.proofs.Period.{period-unique}
+use Rattle.theory.proofs.Exists.{says-right, period-found}
+use Rattle.theory.proofs.Judging.{judge-accepted}
+
+-- ---- answers that are facts about what was accepted
+
+-- one answer for each thing accepted: one verdict
+answers-unique : {A B : Type 0} (P : A → B → Type 0) → ((x : A) (y z : B) → P x y → P x z → y ≡ z) → (u : Verdict A) (v w : Verdict B)
+    → Answers P u v → Answers P u w → v ≡ w
+unfolding Answers
+answers-unique P one (accepted x) v w p q = p .2 ∙ ap accepted (one x (p .0) (q .0) (p .1) (q .1)) ∙ sym (q .2)
+answers-unique P one (refused n a b) v w p q = p ∙ sym q
+
+-- an answer for each thing accepted: a verdict
+answers-exist : {A B : Type 0} (P : A → B → Type 0) (f : A → B) (u : Verdict A) → ((x : A) → u ≡ accepted x → P x (f x))
+    → Answers P u (onwards u (λ x. accepted (f x)))
+unfolding Answers onwards
+answers-exist P f (accepted x) g = (f x, g x refl, refl)
+answers-exist P f (refused n a b) g = refl
+
+-- ---- plan
+
+planned-unique : (T : Table) (R S : Reply) → Planned T R → Planned T S → R ≡ S
+planned-unique T R S (q, x, e) (p, y, f) = e ∙ ap (replyOf T) (period-unique T q p x y) ∙ sym f
+
+pub reply-unique : (s : List ℕ) (v w : Verdict Reply) → ReplyTo s v → ReplyTo s w → v ≡ w
+reply-unique s = answers-unique Planned planned-unique (judge s)
+
+-- the computed reply is the reply
+pub reply-found : (s : List ℕ) → ReplyTo s (planOf s)
+unfolding planOf
+reply-found s =
+    answers-exist Planned (λ T. replyOf T (periodOf T)) (judge s)
+    (λ T e. (periodOf T, period-found T (judge-accepted s T e), refl))
+
+pub plan-unique : (s out : List ℕ) (w x : Written) → IsPlan s out w → IsPlan s out x → w ≡ x
+plan-unique s out w x (v, r, e) (u, q, f) = e ∙ ap (λ (y : Verdict Reply). written (bytesOf replyBytes y) out) (reply-unique s v u r q) ∙ sym f
+
+pub plan-exists : (s out : List ℕ) → (w : Written) × IsPlan s out w
+plan-exists s out = (written (bytesOf replyBytes (planOf s)) out, (planOf s, reply-found s, refl))
+
+-- ---- unfold, write, margin: computed from the input, so one answer and always one
+pub unfold-unique : (s out : List ℕ) (w x : Written) → IsUnfold s out w → IsUnfold s out x → w ≡ x
+unfold-unique s out w x e f = e ∙ sym f
+
+pub unfold-exists : (s out : List ℕ) → (w : Written) × IsUnfold s out w
+unfold-exists s out = (_, refl)
+
+pub write-unique : (N : Numbers) (out : List ℕ) (w x : Written) → IsWrite N out w → IsWrite N out x → w ≡ x
+write-unique N out w x e f = e ∙ sym f
+
+pub write-exists : (N : Numbers) (out : List ℕ) → (w : Written) × IsWrite N out w
+write-exists N out = (_, refl)
+
+pub margin-unique : (s : List ℕ) (i j n q : ℕ) (v w : Verdict ℤ) → IsMargin s i j n q v → IsMargin s i j n q w → v ≡ w
+margin-unique s i j n q v w e f = e ∙ sym f
+
+pub margin-exists : (s : List ℕ) (i j n q : ℕ) → (v : Verdict ℤ) × IsMargin s i j n q v
+margin-exists s i j n q = (_, refl)
+
+-- ---- is q right
+
+said-unique : (q : ℕ) (T : Table) (x y : Bool) → RightSaid q T x → RightSaid q T y → x ≡ y
+said-unique q T true y a b = sym (b .1 (a .0 refl))
+said-unique q T false true a b = a .1 (b .0 refl)
+said-unique q T false false a b = refl
+
+pub right-unique : (s : List ℕ) (q : ℕ) (v w : Verdict Bool) → IsRight s q v → IsRight s q w → v ≡ w
+right-unique s q = answers-unique (RightSaid q) (said-unique q) (onwards (judge s) (λ T. periodAsked T q 0 then accepted T))
+
+-- a table that may be asked about q: accepted, and q from 1 to its length
+question : (s : List ℕ) (q : ℕ) (T : Table) → onwards (judge s) (λ T. periodAsked T q 0 then accepted T) ≡ accepted T
+    → Accepted T × (1 ≤ q) × (q ≤ T .len)
+unfolding asked
+question s q T e =
+    let (U, x, y) = onwards-first (judge s) (λ T. periodAsked T q 0 then accepted T) e in
+    let same : U ≡ T = cc (then-rest (periodAsked U q 0) (accepted U) y) in
+    let (low, high) =
+    says-and (leb 1 q) (leb q (U .len)) (says-leb 1 q) (says-leb q (U .len)) .0
+    (not-false _ (passed (not (leb 1 q && leb q (U .len))) ASK 0 0 (then-first (periodAsked U q 0) (accepted U) y .1)))
+    in
+    (rw same at (judge-accepted s U x), low, rw same at high)
+
+pub right-exists : (s : List ℕ) (q : ℕ) → (v : Verdict Bool) × IsRight s q v
+right-exists s q = (
+  _,
+  answers-exist (RightSaid q) (λ T. rightb T q) (onwards (judge s) (λ T. periodAsked T q 0 then accepted T))
+      (λ T e. let (ok, low, high) = question s q T e in says-right T ok q low),
+)
+
+-- ---- lent bytes
+
+-- with room: the number of bytes, then the bytes and the rest of the buffer
+pub put-room : (bytes out : List ℕ) → length bytes ≤ length out
+    → put bytes out ≡ record { answer = accepted (length bytes); buffer = bytes ++ drop (length bytes) out }
+unfolding put
+put-room bytes out h = rw (le-ltb (length out) (length bytes) h)
+
+-- without: ROOM
+pub put-short : (bytes out : List ℕ) → length out < length bytes
+    → put bytes out ≡ record { answer = refused ROOM (length bytes) 0; buffer = out }
+unfolding put
+put-short bytes out h = rw (lt-ltb (length out) (length bytes) h)
+
+put-refused : (bytes out : List ℕ) (n a b : ℕ) → put bytes out .answer ≡ refused n a b → put bytes out .buffer ≡ out
+put-refused bytes out n a b e = go (decLt (length out) (length bytes))
+  where
+    go : Dec (length out < length bytes) → put bytes out .buffer ≡ out
+    go (yes h) = ap (λ (w : Written). w .buffer) (put-short bytes out h)
+    go (no h) = never-refused (sym e ∙ ap (λ (w : Written). w .answer) (put-room bytes out (omega arith)))
+
+-- demand 1: "A refusal gives its number and two figures .., and the reply buffer keeps each byte it had", whatever was to be written
+pub refusal-keeps : (v : Verdict (List ℕ)) (out : List ℕ) (n a b : ℕ) → written v out .answer ≡ refused n a b → written v out .buffer ≡ out
+unfolding written
+refusal-keeps (accepted bytes) out n a b e = put-refused bytes out n a b e
+refusal-keeps (refused m c d) out n a b e = refl
+
+-- two byte strings for which there is room are told apart by what is left in the buffer
+pub put-same : (x y out : List ℕ) → length x ≤ length out → length y ≤ length out → put x out ≡ put y out → x ≡ y
+put-same x y out h g e =
+    let same = sym (put-room x out h) ∙ e ∙ put-room y out g in
+    let len : length x ≡ length y = cc (ap (λ (w : Written). w .answer) same) in
+    sym (take-append-seam x (drop (length x) out))
+    ∙ ap (λ (w : Written). take (length x) (w .buffer)) same
+    ∙ ap (λ (n : ℕ). take n (y ++ drop (length y) out)) len
+    ∙ take-append-seam y (drop (length y) out)

@@ -1,0 +1,49 @@
+-- The starred bench tables: one list, one claim, one computation.
+-- Assumes nothing.
+use mathlib.Core.Path.{_≡_, refl, subst}
+use mathlib.Core.List.{List, [], _∷_, map}
+use lib.IntN.{ℤ}
+use Rattle.rules.specs.Rows.{Reply, margin}
+use Rattle.rules.specs.Verdicts.{Verdict, accepted, _then_, onwards}
+use Rattle.rules.specs.Judge.{judge}
+use Rattle.rules.specs.Answers.{ReplyTo, marginTest}
+use Rattle.rules.specs.Bench.{Case, replies, margins, Holds, All, bench}
+use Rattle.theory.specs.Tests.{planOf}
+use Rattle.theory.proofs.Answering.{reply-found}
+
+-- an answer of either kind
+data Said : Type 0 where
+  replied : Verdict Reply → Said
+  measured : Verdict ℤ → Said
+
+-- what is computed for a case, and what stands beside it
+computed : Case → Said
+unfolding planOf onwards judge marginTest _then_ margin
+computed (replies s v) = replied (planOf s)
+computed (margins s i j n q v) = measured (onwards (judge s) (λ T. marginTest T i j n q then accepted (margin T i j n q)))
+
+expected : Case → Said
+expected (replies s v) = replied v
+expected (margins s i j n q v) = measured v
+
+-- a case whose answer is computed holds
+computed-holds : (c : Case) → computed c ≡ expected c → Holds c
+unfolding computed expected Holds
+computed-holds (replies s v) e = let same : planOf s ≡ v = cc in subst (λ (x : Verdict Reply). ReplyTo s x) same (reply-found s)
+computed-holds (margins s i j n q v) e = cc
+
+all-computed : (cs : List Case) → map computed cs ≡ map expected cs → All Holds cs
+unfolding All
+all-computed [] e = tt
+all-computed (c ∷ cs) e =
+    let here : computed c ≡ expected c = cc in
+    let rest : map computed cs ≡ map expected cs = cc in
+    (computed-holds c here, all-computed cs rest)
+
+computes : map computed bench ≡ map expected bench
+unfolding computed expected bench
+computes = refl
+
+-- K1 to K10 and K1's two margins, each with its whole answer
+pub bench-holds : All Holds bench
+bench-holds = all-computed bench computes

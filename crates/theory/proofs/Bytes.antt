@@ -1,0 +1,240 @@
+-- What is written is read back: numbers, operations, and fields one after the other; and how long the bytes are.
+-- Assumes nothing.
+use Prim.Native.Nat.{ℕ, zero, suc, _+_, _*_, _/_, _%_, _^_, _<_, _≤_}
+use mathlib.Core.Path.{_≡_, refl, _∙_}
+use mathlib.Core.Bool.{Bool, true, not}
+use mathlib.Core.List.{List, [], _∷_, _++_, append-assoc}
+use native.Mathlib.Nat.{div-div-eq-div-mul}
+use native.Mathlib.Omega.{arith}
+use lib.Dec.{eqb·suc-zero}
+use lib.ListN.{length, getD, length-append}
+use lib.Seq.{getD-append-add}
+use borrow.Author.Tests.{le-leb, lt-leb, le-ltb, eq-eqb, ne-eqb}
+use Rattle.rules.specs.Table.{Op, Table, nops}
+use Rattle.rules.specs.Rows.{Reply}
+use Rattle.rules.specs.Verdicts.{Verdict, accepted, refused, SIZE, MANY, _then_, more}
+use Rattle.rules.specs.Bytes.{num8, num16, num32, words, be16, be32, fieldBytes, joined, opBytes, opAt, tableBytes, rowBytes, replyBytes}
+use Rattle.rules.specs.Judge.{notMany, ranged, fieldTest, repeatTest, fieldsFrom, lenOk}
+use Rattle.theory.specs.Numbers.{OpFits}
+use Rattle.theory.proofs.Says.{says-leb, says-and}
+use Rattle.theory.proofs.Verdicts.{passes, then-accepts, more-accepts}
+
+-- ---- numbers in bytes
+
+-- the two low bytes of a number hold its remainder by 65536
+two-low : (x : ℕ) → x / 256 % 256 * 256 + x % 256 ≡ x % 65536
+two-low x = omega arith
+
+-- a number is the number in its two or four bytes
+pub two-bytes : (x : ℕ) → x < 65536 → x / 256 % 256 * 256 + x % 256 ≡ x
+two-bytes x h = omega (arith, two-low x)
+
+pub four-bytes : (x : ℕ) → x < 2 ^ 32 → (x / 16777216 % 256 * 256 + x / 65536 % 256) * 65536 + (x / 256 % 256 * 256 + x % 256) ≡ x
+four-bytes x h =
+    let high : x / 16777216 % 256 * 256 + x / 65536 % 256 ≡ x / 65536 =
+    rw (← div-div-eq-div-mul x 65536 256) (two-bytes (x / 65536) (omega arith))
+    in
+    omega (arith, two-low x)
+
+-- what stands behind some bytes is read past their length
+past8 : (pre s : List ℕ) (n k : ℕ) → n ≡ length pre + k → num8 (pre ++ s) n ≡ num8 s k
+past8 pre s n k e = rw e (getD-append-add pre s k 0)
+
+pub past16 : (pre s : List ℕ) (n k : ℕ) → n ≡ length pre + k → num16 (pre ++ s) n ≡ num16 s k
+past16 pre s n k e = cc (past8 pre s n k e, past8 pre s (n + 1) (k + 1) (omega arith))
+
+past32 : (pre s : List ℕ) (n k : ℕ) → n ≡ length pre + k → num32 (pre ++ s) n ≡ num32 s k
+past32 pre s n k e = cc (past16 pre s n k e, past16 pre s (n + 2) (k + 2) (omega arith))
+
+-- what is written at a place is read there
+module _ (pre post : List ℕ) (n : ℕ) (place : n ≡ length pre) where
+  pub num32-back : (x : ℕ) → x < 2 ^ 32 → num32 (pre ++ (be32 x ++ post)) n ≡ x
+  num32-back x h = past32 pre (be32 x ++ post) n 0 (omega arith) ∙ four-bytes x h
+
+  pub op-back : (o : Op) → OpFits o → opAt (pre ++ (opBytes o ++ post)) n ≡ o
+  op-back o h =
+      let s = opBytes o ++ post in
+      let start = past16 pre s (n + 3) 3 (omega arith) ∙ two-bytes (o .start) (h .start) in
+      let dur = past16 pre s (n + 5) 5 (omega arith) ∙ two-bytes (o .dur) (h .dur) in
+      let boards = past16 pre s (n + 7) 7 (omega arith) ∙ two-bytes (o .boards) (h .boards) in
+      let reads = past32 pre s (n + 9) 9 (omega arith) ∙ four-bytes (o .reads) (h .reads) in
+      let writes = past32 pre s (n + 13) 13 (omega arith) ∙ four-bytes (o .writes) (h .writes) in
+      let modes = past32 pre s (n + 17) 17 (omega arith) ∙ four-bytes (o .modes) (h .modes) in
+      λ i. record { start = start i; dur = dur i; boards = boards i; reads = reads i; writes = writes i; modes = modes i }
+
+pub words-back : (ws pre post : List ℕ) (n : ℕ) → n ≡ length pre → ((a : ℕ) → a < length ws → getD ws a 0 < 2 ^ 32)
+    → words (pre ++ (joined be32 ws ++ post)) n (length ws) ≡ ws
+unfolding words joined
+words-back [] pre post n place h = refl
+words-back (w ∷ ws) pre post n place h =
+    let first = num32-back pre (joined be32 ws ++ post) n place w (h 0 (omega arith)) in
+    let rest = words-back ws (pre ++ be32 w) post (n + 4) (omega (arith, length-append pre (be32 w))) (λ a b. h (suc a) (omega arith)) in
+    cc (first, rw append-assoc at rest)
+
+-- ---- lengths
+
+-- parts of one width
+pub joined-length : {A : Type 0} (f : A → List ℕ) (w : ℕ) → ((x : A) → length (f x) ≡ w) → (xs : List A)
+    → length (joined f xs) ≡ w * length xs
+unfolding joined
+joined-length f w h [] = omega arith
+joined-length f w h (x ∷ xs) = omega (arith, length-append (f x) (joined f xs), h x, joined-length f w h xs)
+
+pub words-length : (ws : List ℕ) → length (joined be32 ws) ≡ 4 * length ws
+words-length = joined-length be32 4 (λ x. refl)
+
+pub ops-length : (os : List Op) → length (joined opBytes os) ≡ 21 * length os
+ops-length = joined-length opBytes 21 (λ o. refl)
+
+-- the bytes before the operations
+abbrev pub headBytes : Table → List ℕ
+headBytes T =
+    fieldBytes 1 (be16 (T .len))
+    ++ fieldBytes 2 (T .boards ∷ T .cells ∷ T .modes ∷ [])
+    ++ fieldBytes 3 (be32 (T .first) ++ joined be32 (T .follow))
+
+pub head-length : (T : Table) → length (headBytes T) ≡ 18 + 4 * length (T .follow)
+head-length T = omega (arith, words-length (T .follow))
+
+pub table-length : (T : Table) → length (tableBytes T) ≡ 18 + 4 * length (T .follow) + 21 * nops T
+unfolding tableBytes
+table-length T = omega (arith, length-append (headBytes T) (joined opBytes (T .ops)), head-length T, ops-length (T .ops))
+
+pub reply-length : (R : Reply) → length (replyBytes R) ≡ 5 + 7 * length (R .rows)
+unfolding replyBytes
+reply-length R = omega (arith, joined-length rowBytes 7 (λ r. refl) (R .rows))
+
+-- ---- a field that is there
+
+module _ (s : List ℕ) (at tag size : ℕ) (ok : Bool) (t : num8 s at ≡ tag) where
+  -- one of another length
+  pub field-size : at + 3 ≤ length s → (num16 s (at + 1) ≡ size → ⊥) → fieldTest s at tag size ok ≡ refused SIZE at 0
+  unfolding fieldTest
+  field-size h n =
+      simp (
+        lt-leb (length s) at (omega arith),
+        le-ltb (length s) (at + 3) h,
+        eq-eqb (num8 s at) tag t,
+        ne-eqb (num16 s (at + 1)) size n,
+      )
+
+  -- of a whole one the range is left to test
+  module _ (h : at + 3 + size ≤ length s) (z : num16 s (at + 1) ≡ size) where
+    pub field-whole : fieldTest s at tag size ok ≡ ranged ok at
+    unfolding fieldTest
+    field-whole =
+        simp (
+          lt-leb (length s) at (omega arith),
+          le-ltb (length s) (at + 3) (omega arith),
+          eq-eqb (num8 s at) tag t,
+          eq-eqb (num16 s (at + 1)) size z,
+          le-ltb (length s) (at + 3 + size) h,
+        )
+
+    repeat-whole : (left : ℕ) → repeatTest s at left tag size ok ≡ (notMany at left then ranged ok at)
+    unfolding repeatTest
+    repeat-whole left =
+        simp (
+          le-ltb (length s) (at + 3) (omega arith),
+          eq-eqb (num8 s at) tag t,
+          eq-eqb (num16 s (at + 1)) size z,
+          le-ltb (length s) (at + 3 + size) h,
+        )
+
+pub in-range : (ok : Bool) (at : ℕ) → ok ≡ true → ranged ok at ≡ accepted tt
+unfolding ranged
+in-range ok at h = passes (not ok) _ _ _ (rw h)
+
+-- the length of a table, or a period
+pub len-ok : (p : ℕ) → 1 ≤ p → p ≤ 1000 → lenOk p ≡ true
+unfolding lenOk
+len-ok p low high = says-and _ _ (says-leb 1 p) (says-leb p 1000) .1 (low, high)
+
+-- one more may come
+spare : (at left : ℕ) → notMany at (suc left) ≡ accepted tt
+unfolding notMany
+spare at left = passes _ _ _ _ (eqb·suc-zero left)
+
+-- ---- repeated fields
+
+-- the verdict on repeated fields by what is written in them, when `left` more may come and the next is at a place
+unfoldable pub fieldsOf : {A : Type 0} → ℕ → (A → Bool) → List A → ℕ → ℕ → Verdict (List A)
+unfolding ranged more _then_
+fieldsOf size ok [] left at = accepted []
+fieldsOf size ok (x ∷ xs) zero at = refused MANY at 0
+fieldsOf size ok (x ∷ xs) (suc left) at = ranged (ok x) at then more x (fieldsOf size ok xs left (at + 3 + size))
+
+-- those in their ranges are accepted, if they are not too many
+pub fields-accepted : {A : Type 0} (d : A) (size : ℕ) (ok : A → Bool) (xs : List A) (left at : ℕ) → length xs ≤ left
+    → ((i : ℕ) → i < length xs → ok (getD xs i d) ≡ true) → fieldsOf size ok xs left at ≡ accepted xs
+unfolding fieldsOf
+fields-accepted d size ok [] left at few h = refl
+fields-accepted d size ok (x ∷ xs) zero at few h = absurd (omega arith)
+fields-accepted d size ok (x ∷ xs) (suc left) at few h =
+    then-accepts _ (in-range (ok x) at (h 0 (omega arith)))
+    ∙ more-accepts x (fields-accepted d size ok xs left (at + 3 + size) (omega arith) (λ i b. h (suc i) (omega arith)))
+
+module _ {A : Type 0} (tag size : ℕ) (ok : A → Bool) (value : List ℕ → ℕ → A) (s : List ℕ) (at : ℕ) where
+  no-field : (left : ℕ) → length s ≤ at → fieldsFrom tag size ok value s left at ≡ accepted []
+  unfolding fieldsFrom
+  no-field zero h = rw (le-leb (length s) at h)
+  no-field (suc left) h = rw (le-leb (length s) at h)
+
+  -- one whole field, where no more may come and where one may
+  module _ (t : num8 s at ≡ tag) (h : at + 3 + size ≤ length s) (z : num16 s (at + 1) ≡ size) where
+    field-many : fieldsFrom tag size ok value s 0 at ≡ refused MANY at 0
+    unfolding fieldsFrom
+    field-many = simp (lt-leb (length s) at (omega arith), repeat-whole s at tag size (ok (value s at)) t h z 0)
+
+    field-more : (left : ℕ)
+        → fieldsFrom tag size ok value s (suc left) at
+        ≡ (ranged (ok (value s at)) at then more (value s at) (fieldsFrom tag size ok value s left (at + 3 + size)))
+    unfolding fieldsFrom
+    field-more left =
+        simp (lt-leb (length s) at (omega arith), repeat-whole s at tag size (ok (value s at)) t h z (suc left) ∙ then-accepts _ (spare at left))
+
+-- how something is written in a field: with its tag, with its length, and so that it is read back where it fits
+pub record Repeated {A : Type 0} (tag size : ℕ) (value : List ℕ → ℕ → A) (bytes : A → List ℕ) (Fits : A → Type 0) : Type 0 where
+  pub width : (x : A) → length (bytes x) ≡ 3 + size
+  pub tagged : (x : A) (post : List ℕ) → num8 (bytes x ++ post) 0 ≡ tag
+  pub sized : (x : A) (post : List ℕ) → num16 (bytes x ++ post) 1 ≡ size
+  pub back : (x : A) → Fits x → (pre post : List ℕ) (n : ℕ) → n ≡ length pre → value (pre ++ (bytes x ++ post)) n ≡ x
+
+module _ {A : Type 0} {tag size : ℕ} {value : List ℕ → ℕ → A} {bytes : A → List ℕ} {Fits : A → Type 0}
+    (is : Repeated tag size value bytes Fits) (d : A) (ok : A → Bool) where
+  -- the first of the fields behind some bytes
+  module _ (x : A) (xs : List A) (pre : List ℕ) (n : ℕ) (place : n ≡ length pre) where
+    abbrev rest : List ℕ
+    rest = joined bytes xs
+
+    first-tag : num8 (pre ++ (bytes x ++ rest)) n ≡ tag
+    first-tag = past8 pre (bytes x ++ rest) n 0 (omega arith) ∙ is .tagged x rest
+
+    first-whole : n + 3 + size ≤ length (pre ++ (bytes x ++ rest))
+    first-whole = omega (arith, length-append pre (bytes x ++ rest), length-append (bytes x) rest, is .width x)
+
+    first-size : num16 (pre ++ (bytes x ++ rest)) (n + 1) ≡ size
+    first-size = past16 pre (bytes x ++ rest) (n + 1) 1 (omega arith) ∙ is .sized x rest
+
+  -- fields that are written one after the other are judged by what is written in them
+  pub fields-back : (xs : List A) (pre : List ℕ) (left n : ℕ) → n ≡ length pre → ((i : ℕ) → i < length xs → Fits (getD xs i d))
+      → fieldsFrom tag size ok value (pre ++ joined bytes xs) left n ≡ fieldsOf size ok xs left n
+  unfolding joined fieldsOf
+  fields-back [] pre left n place h = no-field tag size ok value (pre ++ []) n left (omega (arith, length-append pre []))
+  fields-back (x ∷ xs) pre zero n place h =
+      field-many tag size ok value _ n (first-tag x xs pre n place) (first-whole x xs pre n place) (first-size x xs pre n place)
+  fields-back (x ∷ xs) pre (suc left) n place h =
+      let first = is .back x (h 0 (omega arith)) pre (joined bytes xs) n place in
+      let place′ : n + 3 + size ≡ length (pre ++ bytes x) = omega (arith, length-append pre (bytes x), is .width x) in
+      let more = fields-back xs (pre ++ bytes x) left (n + 3 + size) place′ (λ i b. h (suc i) (omega arith)) in
+      field-more tag size ok value _ n (first-tag x xs pre n place) (first-whole x xs pre n place) (first-size x xs pre n place) left
+      ∙ rw (first, ← append-assoc, more)
+
+pub op-repeated : Repeated 4 18 opAt opBytes OpFits
+op-repeated =
+    record {
+      width = λ o. refl;
+      tagged = λ o post. refl;
+      sized = λ o post. refl;
+      back = λ o h pre post n place. op-back pre post n place o h;
+    }

@@ -1,0 +1,209 @@
+-- The length of an accepted table's bytes, and that no verdict depends on bytes past 821.
+-- Assumes nothing.
+use Prim.Native.Nat.{ℕ, zero, suc, _+_, _*_, _<_, _≤_}
+use mathlib.Core.Path.{_≡_, refl, sym, ap, subst, _∙_}
+use mathlib.Core.Bool.{Bool, true, false}
+use mathlib.Core.List.{List}
+use native.Mathlib.Omega.{arith}
+use lib.Dec.{leb, ltb}
+use lib.ListN.{length, take, length-take}
+use lib.Seq.{getD-take}
+use borrow.Author.Tests.{eqb-false}
+use Rattle.rules.specs.Table.{Table, nops}
+use Rattle.rules.specs.Verdicts.{accepted, MANY}
+use Rattle.rules.specs.Bytes.{num8, num16, num32, words, opAt, longestTable, farthest}
+use Rattle.rules.specs.Judge.{needed, header, due, notMany, sized, complete, fieldTest, repeatTest, fieldsFrom, lenOk, countsOk, opOk, headTest, headOf, opsFrom, opsPlace, judge}
+use Rattle.theory.proofs.Says.{Says, says-leb, says-ltb}
+use Rattle.theory.proofs.Verdicts.{passed, then-same}
+use Rattle.theory.proofs.Judging.{field-row, repeat-row, fields-end, fields-next, head-row, head-ok, judge-row, field-passed, says-counts, whole-accepted, judge-parts, judge-accepted}
+
+-- a table's bytes: 18, 4 for each mode and 21 for each operation
+pub table-size : (s : List ℕ) (T : Table) → judge s ≡ accepted T → length s ≡ 18 + 4 * T .modes + 21 * nops T
+table-size s T e =
+    let p = judge-parts s T e in
+    subst (λ (U : Table). length s ≡ 18 + 4 * U .modes + 21 * nops U) (whole-accepted _ T (p .whole) .0) (omega (arith, p .passing .filled))
+
+-- "The longest table has 818 bytes."
+pub longest : (s : List ℕ) (T : Table) → judge s ≡ accepted T → length s ≤ longestTable
+longest s T e = let ok = judge-accepted s T e in omega (arith, table-size s T e)
+
+-- ---- an input and its first n bytes
+
+-- two tests are the same where what they say is
+says-same : {P Q : Type 0} (a b : Bool) → Says a P → Says b Q → (P → Q) → (Q → P) → a ≡ b
+says-same true b s t f g = sym (t .1 (f (s .0 refl)))
+says-same false true s t f g = s .1 (g (t .0 refl))
+says-same false false s t f g = refl
+
+-- counts in their ranges: 32 modes at most
+modes-few : (H : Table) → countsOk (H .boards) (H .cells) (H .modes) ≡ true → H .modes ≤ 32
+modes-few H e = says-counts (H .boards) (H .cells) (H .modes) .0 e .1 .1 .1 .1
+
+module _ (n : ℕ) (s : List ℕ) where
+  -- whether the input ends at or before a place
+  ends-near : (at : ℕ) → at < n → leb (length (take n s)) at ≡ leb (length s) at
+  ends-near at h =
+      says-same _ _ (says-leb (length (take n s)) at) (says-leb (length s) at)
+      (λ x. omega (arith, length-take n s)) (λ x. omega (arith, length-take n s))
+
+  -- whether it ends before a place
+  short-near : (at : ℕ) → at ≤ n → ltb (length (take n s)) at ≡ ltb (length s) at
+  short-near at h =
+      says-same _ _ (says-ltb (length (take n s)) at) (says-ltb (length s) at)
+      (λ x. omega (arith, length-take n s)) (λ x. omega (arith, length-take n s))
+
+  -- the numbers at a place
+  num8-near : (at : ℕ) → at + 1 ≤ n → num8 (take n s) at ≡ num8 s at
+  num8-near at h = getD-take n s at 0 (omega arith)
+
+  num16-near : (at : ℕ) → at + 2 ≤ n → num16 (take n s) at ≡ num16 s at
+  num16-near at h = cc (num8-near at (omega arith), num8-near (at + 1) (omega arith))
+
+  num32-near : (at : ℕ) → at + 4 ≤ n → num32 (take n s) at ≡ num32 s at
+  num32-near at h = cc (num16-near at (omega arith), num16-near (at + 2) (omega arith))
+
+  -- the followers' words, and an operation
+  words-near : (at m : ℕ) → at + m * 4 ≤ n → words (take n s) at m ≡ words s at m
+  unfolding words
+  words-near at zero h = refl
+  words-near at (suc m) h = cc (num32-near at (omega arith), words-near (at + 4) m (omega arith))
+
+  op-near : (at : ℕ) → at + 21 ≤ n → opAt (take n s) at ≡ opAt s at
+  op-near at h =
+      cc (
+        num16-near (at + 3) (omega arith),
+        num16-near (at + 5) (omega arith),
+        num16-near (at + 7) (omega arith),
+        num32-near (at + 9) (omega arith),
+        num32-near (at + 13) (omega arith),
+        num32-near (at + 17) (omega arith),
+      )
+
+  -- ---- the tests at a place that is low enough
+  needed-near : (at : ℕ) → at < n → needed (take n s) at ≡ needed s at
+  unfolding needed
+  needed-near at h = rw (ends-near at h)
+
+  header-near : (at : ℕ) → at + 3 ≤ n → header (take n s) at ≡ header s at
+  unfolding header
+  header-near at h = rw (short-near (at + 3) h)
+
+  due-near : (at tag : ℕ) → at + 3 ≤ n → due (take n s) at tag ≡ due s at tag
+  unfolding due
+  due-near at tag h = rw (num8-near at (omega arith))
+
+  sized-near : (at size : ℕ) → at + 3 ≤ n → sized (take n s) at size ≡ sized s at size
+  unfolding sized
+  sized-near at size h = rw (num16-near (at + 1) (omega arith))
+
+  complete-near : (at size : ℕ) → at + 3 + size ≤ n → complete (take n s) at size ≡ complete s at size
+  unfolding complete
+  complete-near at size h = rw (short-near (at + 3 + size) h)
+
+  -- a field that is there once, with its value
+  field-near : (at tag size : ℕ) {fine ok : Bool} → at + 3 + size ≤ n → fine ≡ ok → fieldTest (take n s) at tag size fine ≡ fieldTest s at tag size ok
+  field-near at tag size {fine} {ok} h e =
+      cc (
+        field-row (take n s) at tag size fine,
+        field-row s at tag size ok,
+        needed-near at (omega arith),
+        header-near at (omega arith),
+        due-near at tag (omega arith),
+        sized-near at size (omega arith),
+        complete-near at size h,
+      )
+
+  -- of a repeated field that may not come, the header alone is looked at
+  repeat-near : (at left tag size : ℕ) {fine ok : Bool} → at + 3 ≤ n → (0 < left → (at + 3 + size ≤ n) × (fine ≡ ok))
+      → repeatTest (take n s) at left tag size fine ≡ repeatTest s at left tag size ok
+  unfolding notMany
+  repeat-near at left tag size {fine} {ok} h may =
+      repeat-row (take n s) at tag size fine left
+      ∙ then-same (header-near at h)
+      (λ _ _. then-same (due-near at tag h)
+      (λ _ _. then-same refl
+      (λ _ e. let (full, same) = may (rest e) in cc (sized-near at size h, complete-near at size full, same))))
+      ∙ sym (repeat-row s at tag size ok left)
+    where
+      rest : {x : Unit {0}} → notMany at left ≡ accepted x → 0 < left
+      rest e = omega (arith, eqb-false left 0 (passed _ MANY at 0 e))
+
+  -- repeated fields, where there is room for all that may come and for one header more
+  module _ {A : Type 0} (tag size : ℕ) (ok : A → Bool) (value : List ℕ → ℕ → A)
+      (same : (at : ℕ) → at + 3 + size ≤ n → value (take n s) at ≡ value s at) where
+    fields-near : (left at : ℕ) → at + left * (3 + size) + 3 ≤ n → fieldsFrom tag size ok value (take n s) left at ≡ fieldsFrom tag size ok value s left at
+    fields-near zero at h =
+        cc (
+          fields-end tag size ok value (take n s) at,
+          fields-end tag size ok value s at,
+          ends-near at (omega arith),
+          repeat-near at 0 tag size {fine = ok (value (take n s) at)} {ok = ok (value s at)} (omega arith) (λ h. absurd (omega arith)),
+        )
+    fields-near (suc left) at h =
+        let alike : value (take n s) at ≡ value s at = same at (omega arith) in
+        cc (
+          fields-next tag size ok value (take n s) left at,
+          fields-next tag size ok value s left at,
+          ends-near at (omega arith),
+          repeat-near at (suc left) tag size (omega arith) (λ _. (omega arith, ap ok alike)),
+          fields-near left (at + 3 + size) (omega arith),
+        )
+
+  -- the operations' fields: 32 of 21 bytes, and one header more
+  ops-near : (H : Table) (at : ℕ) → at + 675 ≤ n → opsFrom H (take n s) 32 at ≡ opsFrom H s 32 at
+  unfolding opsFrom
+  ops-near H at h = fields-near 4 18 (opOk H) opAt (λ i k. op-near i (omega arith)) 32 at (omega arith)
+
+  -- ---- the whole input
+  module _ (enough : farthest ≤ n) where
+    -- the ranges of the first two fields
+    len-near : lenOk (headOf (take n s) .len) ≡ lenOk (headOf s .len)
+    unfolding headOf
+    len-near = cc (num16-near 3 (omega arith))
+
+    counts-near : countsOk (headOf (take n s) .boards) (headOf (take n s) .cells) (headOf (take n s) .modes) ≡ countsOk (headOf s .boards) (headOf s .cells) (headOf s .modes)
+    unfolding headOf
+    counts-near = cc (num8-near 8 (omega arith), num8-near 9 (omega arith), num8-near 10 (omega arith))
+
+    -- with 32 modes at most, what stands before the operations is near enough
+    head-near : headOf s .modes ≤ 32 → headOf (take n s) ≡ headOf s
+    unfolding headOf
+    head-near h =
+        cc (
+          num16-near 3 (omega arith),
+          num8-near 8 (omega arith),
+          num8-near 9 (omega arith),
+          num8-near 10 (omega arith),
+          num32-near 14 (omega arith),
+          words-near 18 (num8 s 10) (omega arith),
+        )
+
+    -- the first two fields accepted, the number of modes is known, and with it where the rest stands
+    headTest-near : headTest (take n s) ≡ headTest s
+    headTest-near =
+        head-row (take n s)
+        ∙ then-same (field-near 0 1 2 (omega arith) len-near)
+        (λ _ _. then-same (field-near 5 2 3 (omega arith) counts-near)
+        (λ _ e.
+        let few = modes-few (headOf s) (field-passed s 5 2 3 _ e .1) in
+        rw (head-near few)
+        (cc (field-near 11 3 (4 + 4 * headOf s .modes) (omega arith) refl, needed-near (opsPlace (headOf s .modes)) (omega arith)))))
+        ∙ sym (head-row s)
+
+    -- the first n bytes have the verdict of the whole input, for every n from 821 on
+    pub judge-front : judge (take n s) ≡ judge s
+    judge-front =
+        judge-row (take n s)
+        ∙ then-same headTest-near
+        (λ _ e.
+        let few = modes-few (headOf s) (head-ok s e .0 .counts) in
+        rw (head-near few) (cc (ops-near (headOf s) (opsPlace (headOf s .modes)) (omega arith))))
+        ∙ sym (judge-row s)
+
+-- "no answer depends on bytes past 821"
+pub judge-near : (s : List ℕ) → judge (take farthest s) ≡ judge s
+judge-near s = judge-front farthest s (omega arith)
+
+-- two inputs that differ only past byte 821 have one verdict
+pub no-farther : (s t : List ℕ) → take farthest s ≡ take farthest t → judge s ≡ judge t
+no-farther s t e = sym (judge-near s) ∙ ap judge e ∙ judge-near t

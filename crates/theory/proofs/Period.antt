@@ -1,0 +1,84 @@
+-- The period is unique, and the length of an accepted table is a right period.
+-- Assumes nothing.
+use Prim.Native.Nat.{ℕ, _*_, _<_}
+use mathlib.Core.Path.{_≡_, sym, ap, subst}
+use mathlib.Core.List.{List}
+use mathlib.Core.Logic.{inl, inr}
+use native.Mathlib.Omega.{arith}
+use Rattle.rules.specs.Sets.{Share, Overlap}
+use Rattle.rules.specs.Table.{Op, Table, nops, op, heldTo, Clash, Race, Contest, Accepted}
+use Rattle.rules.specs.Runs.{mode, Runs, BoardsRightAt, ValuesRightAt, Right, spaced, IsPeriod}
+use Rattle.theory.proofs.Order.{Cmp, less, same, more, cmp, later}
+
+-- T0: a table has one period
+pub period-unique : (T : Table) (p q : ℕ) → IsPeriod T p → IsPeriod T q → p ≡ q
+period-unique T p q x y = go (cmp p q)
+  where
+    go : Cmp p q → p ≡ q
+    go (less h) = absurd (y .least p (x .low) h (x .right))
+    go (same e) = e
+    go (more h) = absurd (x .least q (y .low) h (y .right))
+
+-- ---- clash and race do not depend on the order of the two
+clash-sym : {o u : Op} → Clash o u → Clash u o
+clash-sym c =
+    record {
+      mode = (c .mode .0, c .mode .2, c .mode .1);
+      board = (c .board .0, c .board .2, c .board .1);
+      lap = (c .lap .1, c .lap .0);
+    }
+
+contest-sym : (o u : Op) (c : ℕ) → Contest o u c → Contest u o c
+contest-sym o u c (inl (w, inl r)) = inr (r, w)
+contest-sym o u c (inl (w, inr v)) = inl (v, inr w)
+contest-sym o u c (inr (r, w)) = inl (w, inl r)
+
+race-sym : {o u : Op} → Race o u → Race u o
+race-sym {o} {u} c =
+    record {
+      mode = (c .mode .0, c .mode .2, c .mode .1);
+      cell = (c .cell .0, contest-sym o u (c .cell .0) (c .cell .1));
+      lap = (c .lap .1, c .lap .0);
+    }
+
+module _ (T : Table) (ok : Accepted T) where
+  pub never-clash : (i j : ℕ) → i < nops T → j < nops T → (i ≡ j → ⊥) → Clash (op T i) (op T j) → ⊥
+  never-clash i j hi hj ne c = go (cmp i j)
+    where
+      go : Cmp i j → ⊥
+      go (less h) = ok .no-clash i j h hj c
+      go (same e) = ne e
+      go (more h) = ok .no-clash j i h hi (clash-sym c)
+
+  pub never-race : (i j : ℕ) → i < nops T → j < nops T → (i ≡ j → ⊥) → Race (op T i) (op T j) → ⊥
+  never-race i j hi hj ne c = go (cmp i j)
+    where
+      go : Cmp i j → ⊥
+      go (less h) = ok .no-race i j h hj c
+      go (same e) = ne e
+      go (more h) = ok .no-race j i h hi (race-sym c)
+
+  -- two operations of one cycle that share a board do not overlap
+  pub apart : (r : List ℕ) (i j k : ℕ) → Runs T r k i → Runs T r k j → (i ≡ j → ⊥) → Share (op T i .boards) (op T j .boards)
+      → Overlap (op T i .start) (heldTo (op T i)) (op T j .start) (heldTo (op T j)) → ⊥
+  apart r i j k x y ne b l =
+      never-clash i j (x .isOp) (y .isOp) ne (record { mode = (mode r k, x .inMode, y .inMode); board = b; lap = l })
+
+  -- T1: the length is right
+  plain-boards : BoardsRightAt T (spaced (T .len))
+  unfolding BoardsRightAt
+  plain-boards r run i k j l x y ne b lap = go (cmp k l)
+    where
+      go : Cmp k l → ⊥
+      go (less h) = omega (arith, later (T .len) h, ok .each i (x .isOp) .fits)
+      go (same e) =
+          apart r i j k x (subst (λ (m : ℕ). Runs T r m j) (sym e) y) (λ d. ne (d, e)) b
+          (omega (arith, ap (λ (m : ℕ). m * T .len) e))
+      go (more h) = omega (arith, later (T .len) h, ok .each j (y .isOp) .fits)
+
+  plain-values : ValuesRightAt T (spaced (T .len))
+  unfolding ValuesRightAt
+  plain-values r run c i k j l y h s = s .before
+
+  pub length-right : Right T (T .len)
+  length-right = record { boards = plain-boards; values = plain-values }

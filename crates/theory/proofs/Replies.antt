@@ -1,0 +1,115 @@
+-- Unfolding gives the starts back, and a reply is read back as it was written.
+-- Assumes nothing.
+use Prim.Native.Nat.{ℕ, _+_, _<_, _≤_}
+use mathlib.Core.Path.{_≡_, refl, ap, _∙_}
+use mathlib.Core.Bool.{true}
+use mathlib.Core.List.{List, [], _∷_, _++_, map}
+use native.Mathlib.Nat.{div-add-mod', mod-lt, mul-le-mul-left}
+use native.Mathlib.Omega.{arith}
+use lib.Dec.{leb}
+use lib.ListN.{length, getD, take, length-map, List·getD-map}
+use borrow.Author.Tests.{lt-leb}
+use Rattle.rules.specs.Table.{Op, Table, noOp, op, Accepted}
+use Rattle.rules.specs.Rows.{Ticks, Row, Reply, ticks, cycles, foldAt, unfoldAt, replyOf, startsOf}
+use Rattle.rules.specs.Verdicts.{accepted, ORDER, onwards}
+use Rattle.rules.specs.Bytes.{num16, rowBytes, replyBytes, rowAt}
+use Rattle.rules.specs.Judge.{lenOk, needed, rowOk, rowsFrom, replyTest, judgeReply}
+use Rattle.theory.proofs.Says.{Says, says-leb, says-ltb, says-and}
+use Rattle.theory.proofs.Verdicts.{passes, then-accepts, onwards-accepts}
+use Rattle.theory.proofs.Bytes.{two-bytes, past16, reply-length, field-whole, in-range, len-ok, fields-accepted, Repeated, fields-back}
+
+-- ---- fold and unfold
+
+pub unfold-fold : (q t : ℕ) → unfoldAt (ticks q) (foldAt (ticks q) (ticks t)) ≡ ticks t
+unfold-fold q t = ap ticks (omega (arith, div-add-mod' t q))
+
+-- the folded start is below the period
+pub fold-below : (q t : ℕ) → 1 ≤ q → foldAt (ticks q) (ticks t) .start .number < q
+fold-below q t low = omega (arith, div-add-mod' t q, mod-lt t low)
+
+-- the row of an operation
+abbrev folded : ℕ → Op → Row
+folded q o = foldAt (ticks q) (ticks (o .start))
+
+unfold-each : (q : ℕ) (os : List Op) → map (unfoldAt (ticks q)) (map (folded q) os) ≡ map (λ (o : Op). ticks (o .start)) os
+unfold-each q [] = refl
+unfold-each q (o ∷ os) = cc (unfold-fold q (o .start), unfold-each q os)
+
+-- a table's reply unfolds to its starts
+pub reply-starts : (T : Table) (q : ℕ) → startsOf (replyOf T q) ≡ map (λ (o : Op). ticks (o .start)) (T .ops)
+unfolding startsOf replyOf
+reply-starts T q = unfold-each q (T .ops)
+
+-- ---- rows
+
+-- the numbers of a row fit its field
+record RowFits (r : Row) : Type 0 where
+  start : r .start .number < 65536
+  fst : r .fst .number < 65536
+
+row-back : (r : Row) → RowFits r → (pre post : List ℕ) (n : ℕ) → n ≡ length pre → rowAt (pre ++ (rowBytes r ++ post)) n ≡ r
+row-back r h pre post n place =
+    let s = rowBytes r ++ post in
+    let start = past16 pre s (n + 3) 3 (omega arith) ∙ two-bytes (r .start .number) (h .start) in
+    let fst = past16 pre s (n + 5) 5 (omega arith) ∙ two-bytes (r .fst .number) (h .fst) in
+    λ i. record { start = ticks (start i); fst = cycles (fst i) }
+
+row-repeated : Repeated 18 4 rowAt rowBytes RowFits
+row-repeated = record { width = λ r. refl; tagged = λ r post. refl; sized = λ r post. refl; back = row-back }
+
+says-row : (q : ℕ) (r : Row) → Says (rowOk q r) ((r .start .number < q) × (unfoldAt (ticks q) r .number ≤ 999))
+unfolding rowOk
+says-row q r = says-and _ _ (says-ltb _ _) (says-leb _ _)
+
+-- a row in its ranges fits
+row-fits : (q : ℕ) (r : Row) → 1 ≤ q → q ≤ 1000 → rowOk q r ≡ true → RowFits r
+row-fits q r low high h =
+    let (below, near) = says-row q r .0 h in
+    record { start = omega arith; fst = omega (arith, mul-le-mul-left (r .fst .number) low) }
+
+-- a start of an accepted table folds to a row in its ranges
+fold-ok : (q t : ℕ) → 1 ≤ q → t ≤ 999 → rowOk q (foldAt (ticks q) (ticks t)) ≡ true
+fold-ok q t low h =
+    says-row q (foldAt (ticks q) (ticks t)) .1
+    (fold-below q t low, omega (arith, ap (λ (x : Ticks). x .number) (unfold-fold q t)))
+
+-- ---- a reply in its ranges is read back
+
+module _ (R : Reply) (d : Row) (low : 1 ≤ R .period .number) (high : R .period .number ≤ 1000)
+    (some : 1 ≤ length (R .rows)) (few : length (R .rows) ≤ 32)
+    (each : (i : ℕ) → i < length (R .rows) → rowOk (R .period .number) (getD (R .rows) i d) ≡ true) where
+  period-back : num16 (replyBytes R) 3 ≡ R .period .number
+  unfolding replyBytes
+  period-back = two-bytes (R .period .number) (omega arith)
+
+  reply-passes : replyTest (replyBytes R) ≡ accepted tt
+  unfolding replyTest replyBytes needed
+  reply-passes =
+      let size = reply-length R in
+      let field = field-whole (replyBytes R) 0 17 2 (lenOk (num16 (replyBytes R) 3)) refl (omega arith) refl in
+      then-accepts _ (field ∙ in-range _ 0 (ap lenOk period-back ∙ len-ok (R .period .number) low high))
+      ∙ passes (leb (length (replyBytes R)) 5) ORDER 5 0 (lt-leb (length (replyBytes R)) 5 (omega arith))
+
+  rows-back : rowsFrom (R .period .number) (replyBytes R) 32 5 ≡ accepted (R .rows)
+  unfolding rowsFrom replyBytes
+  rows-back =
+      fields-back row-repeated d (rowOk (R .period .number)) (R .rows) (take 5 (replyBytes R)) 32 5 (omega arith)
+      (λ i h. row-fits _ _ low high (each i h))
+      ∙ fields-accepted d 4 (rowOk (R .period .number)) (R .rows) 32 5 few each
+
+  pub reply-back : judgeReply (replyBytes R) ≡ accepted R
+  unfolding judgeReply
+  reply-back =
+      then-accepts _ reply-passes
+      ∙ ap (λ (q : ℕ). onwards (rowsFrom q (replyBytes R) 32 5) (λ rs. accepted (record { period = ticks q; rows = rs }))) period-back
+      ∙ onwards-accepts _ rows-back
+
+-- a table's reply is read back
+pub reply-read : (T : Table) → Accepted T → (q : ℕ) → 1 ≤ q → q ≤ T .len → judgeReply (replyBytes (replyOf T q)) ≡ accepted (replyOf T q)
+unfolding replyOf
+reply-read T ok q low high =
+    let count = length-map (T .ops) (folded q) in
+    reply-back (replyOf T q) (folded q noOp) low (omega arith) (omega arith) (omega arith)
+    (λ i h.
+    ap (rowOk q) (List·getD-map (folded q) (T .ops) i noOp)
+    ∙ fold-ok q (op T i .start) low (let o = ok .each i (omega arith) in omega arith))

@@ -1,0 +1,87 @@
+-- Laws of verdicts: what it takes that a row of tests accepts, and when two rows of tests agree.
+-- Assumes nothing.
+use Prim.Native.Nat.{ℕ, zero, suc, _+_, _<_, _≤_}
+use mathlib.Core.Path.{_≡_, refl, ap, subst, _∙_}
+use mathlib.Core.Bool.{Bool, true, false}
+use mathlib.Core.List.{List, _∷_}
+use native.Mathlib.Omega.{arith}
+use Rattle.rules.specs.Verdicts.{Verdict, accepted, refused, Test, refuseIf, _then_, onwards, more, each}
+use Rattle.theory.proofs.Order.{Cmp, cmp}
+
+-- an accepted verdict is no refusal
+pub never-refused : {A X : Type 0} {x : A} {n a b : ℕ} → refused n a b ≡ accepted x → X
+never-refused {A} {x = x} {n} {a} {b} e = let z : _≡_ {A = ℕ} 0 1 = cc in absurd (omega arith)
+
+-- ---- a test
+
+pub passes : (fault : Bool) (n a b : ℕ) → fault ≡ false → refuseIf fault n a b ≡ accepted tt
+unfolding refuseIf
+passes fault n a b e = rw e
+
+pub passed : (fault : Bool) (n a b : ℕ) → refuseIf fault n a b ≡ accepted tt → fault ≡ false
+unfolding refuseIf
+passed false n a b e = refl
+passed true n a b e = never-refused e
+
+-- ---- one after the other
+
+module _ {A B : Type 0} where
+  pub then-accepts : {x : A} {v : Verdict A} (w : Verdict B) → v ≡ accepted x → (v then w) ≡ w
+  unfolding _then_
+  then-accepts w e = rw e
+
+  -- a row that accepts: the first accepts, and so does the rest
+  pub then-first : (v : Verdict A) (w : Verdict B) {y : B} → (v then w) ≡ accepted y → (x : A) × (v ≡ accepted x)
+  unfolding _then_
+  then-first (accepted x) w e = (x, refl)
+  then-first (refused n a b) w e = never-refused e
+
+  pub then-rest : (v : Verdict A) (w : Verdict B) {y : B} → (v then w) ≡ accepted y → w ≡ accepted y
+  unfolding _then_
+  then-rest (accepted x) w e = e
+  then-rest (refused n a b) w e = never-refused e
+
+  -- two rows agree where their firsts do, and their rests wherever the first accepts
+  pub then-same : {v v′ : Verdict A} {w w′ : Verdict B} → v ≡ v′ → ((x : A) → v′ ≡ accepted x → w ≡ w′) → (v then w) ≡ (v′ then w′)
+  unfolding _then_
+  then-same {v} {v′} {w} {w′} e f = ap (λ (u : Verdict A). u then w) e ∙ go v′ f
+    where
+      go : (u : Verdict A) → ((x : A) → u ≡ accepted x → w ≡ w′) → (u then w) ≡ (u then w′)
+      go (accepted x) g = g x refl
+      go (refused n a b) g = refl
+
+  pub onwards-accepts : {x : A} {v : Verdict A} (f : A → Verdict B) → v ≡ accepted x → onwards v f ≡ f x
+  unfolding onwards
+  onwards-accepts f e = rw e
+
+  pub onwards-first : (v : Verdict A) (f : A → Verdict B) {y : B} → onwards v f ≡ accepted y → (x : A) × (v ≡ accepted x) × (f x ≡ accepted y)
+  unfolding onwards
+  onwards-first (accepted x) f e = (x, refl, e)
+  onwards-first (refused n a b) f e = never-refused e
+
+module _ {A : Type 0} where
+  pub more-accepts : {xs : List A} {v : Verdict (List A)} (x : A) → v ≡ accepted xs → more x v ≡ accepted (x ∷ xs)
+  unfolding more
+  more-accepts x e = rw e
+
+  pub more-first : (x : A) (v : Verdict (List A)) {ys : List A} → more x v ≡ accepted ys → (xs : List A) × (v ≡ accepted xs) × (ys ≡ x ∷ xs)
+  unfolding more
+  more-first x (accepted xs) e = (xs, refl, cc)
+  more-first x (refused n a b) e = never-refused e
+
+-- ---- a test for each number
+pub each-accepts : (f : ℕ → Test) (i n : ℕ) → ((k : ℕ) → i ≤ k → k < i + n → f k ≡ accepted tt) → each f i n ≡ accepted tt
+unfolding each
+each-accepts f i zero h = refl
+each-accepts f i (suc n) h =
+    then-accepts (each f (suc i) n) (h i (omega arith) (omega arith)) ∙ each-accepts f (suc i) n (λ k a b. h k (omega arith) (omega arith))
+
+pub each-accepted : (f : ℕ → Test) (i n : ℕ) → each f i n ≡ accepted tt → (k : ℕ) → i ≤ k → k < i + n → f k ≡ accepted tt
+unfolding each
+each-accepted f i zero e k a b = absurd (omega arith)
+each-accepted f i (suc n) e k a b = go (each-accepted f (suc i) n (then-rest (f i) (each f (suc i) n) e)) (cmp i k)
+  where
+    go : ((k : ℕ) → suc i ≤ k → k < suc i + n → f k ≡ accepted tt) → Cmp i k → f k ≡ accepted tt
+    go rest (Cmp.less h) = rest k h (omega arith)
+    go rest (Cmp.same h) = subst (λ (m : ℕ). f m ≡ accepted tt) h (then-first (f i) (each f (suc i) n) e .1)
+    go rest (Cmp.more h) = absurd (omega arith)

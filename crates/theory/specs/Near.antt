@@ -1,0 +1,51 @@
+-- What the planner looks at in place of all runs: pairs of operations at distances n with n * q below the table's length.
+-- Assumes nothing.
+use Prim.Native.Nat.{ℕ, _+_, _*_, _<_, _≤_}
+use Rattle.rules.specs.Sets.{In, Share, Overlap}
+use Rattle.rules.specs.Table.{Table, nops, op, endOf, heldTo}
+use Rattle.theory.specs.Walks.{Reach, Walk, Any}
+
+-- two operations that share a board, the second n cycles after the first on a walk from a reachable mode, do not overlap
+pub record BoardPair (T : Table) (n i j a b : ℕ) : Type 0 where
+  pub first : i < nops T
+  pub second : j < nops T
+  pub board : Share (op T i .boards) (op T j .boards)
+  pub reach : Reach T a
+  pub runs : In a (op T i .modes)
+  pub walk : Walk T Any n a b
+  pub ends : In b (op T j .modes)
+
+unfoldable pub BoardsNear : Table → ℕ → Type 0
+BoardsNear T q =
+    (n : ℕ) → 1 ≤ n → n * q < T .len → (i j a b : ℕ) → BoardPair T n i j a b
+    → Overlap (op T i .start) (heldTo (op T i)) (op T j .start + n * q) (heldTo (op T j) + n * q) → ⊥
+
+-- i is the last writer of cell c in mode a
+pub record LastWriter (T : Table) (c a i : ℕ) : Type 0 where
+  pub isOp : i < nops T
+  pub runs : In a (op T i .modes)
+  pub writes : In c (op T i .writes)
+  pub last : (u : ℕ) → u < nops T → In a (op T u .modes) → In c (op T u .writes) → endOf (op T u) ≤ endOf (op T i)
+
+-- no operation writes cell c in mode m
+abbrev pub Quiet : Table → ℕ → ℕ → Type 0
+Quiet T c m = (u : ℕ) → u < nops T → In m (op T u .modes) → In c (op T u .writes) → ⊥
+
+-- no operation writes cell c in mode m and ends by the date d
+abbrev pub QuietTo : Table → ℕ → ℕ → ℕ → Type 0
+QuietTo T c d m = (u : ℕ) → u < nops T → In m (op T u .modes) → In c (op T u .writes) → endOf (op T u) ≤ d → ⊥
+
+-- j reads in mode b what i wrote n cycles before in mode a
+pub record ValuePair (T : Table) (n c i j a b : ℕ) : Type 0 where
+  pub reach : Reach T a
+  pub writer : LastWriter T c a i
+  pub walk : Walk T (Quiet T c) n a b
+  pub isOp : j < nops T
+  pub reads : In c (op T j .reads)
+  pub runs : In b (op T j .modes)
+  pub quiet : QuietTo T c (op T j .start) b
+
+unfoldable pub ValuesNear : Table → ℕ → Type 0
+ValuesNear T q =
+    (n : ℕ) → 1 ≤ n → n * q < T .len → (c i j a b : ℕ) → ValuePair T n c i j a b
+    → endOf (op T i) ≤ op T j .start + n * q
