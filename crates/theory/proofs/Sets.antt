@@ -128,3 +128,24 @@ says-shares s t =
     says-by (says-not (eqb (bitAnd s t) 0) (says-eqb (bitAnd s t) 0))
     (λ n. let (m, x) = some-in (bitAnd s t) (omega arith) in (m, in-and m s t .0 x .0, in-and m s t .0 x .1))
     (λ x e. omega (arith, in-pos (x .0) (bitAnd s t) (in-and (x .0) s t .1 (x .1, x .2))))
+
+-- nothing is in s and not in t: each member of s is one of t
+pub says-within : (s t : ℕ) → Says (eqb (without s t) 0) (Within s t)
+says-within s t = says-by (says-eqb (without s t) 0) fwd bwd
+  where
+    fwd : without s t ≡ 0 → Within s t
+    fwd e m h = go (ℕ-discrete (bit t m) 1)
+      where
+        go : Dec (bit t m ≡ 1) → In m t
+        go (yes x) = in-bit m t .1 x
+        go (no x) =
+            absurd (in-none m (subst (λ (y : ℕ). In m y) e (in-without m s t .1 (h, λ z. x (in-bit m t .0 z)))))
+
+    bwd : Within s t → without s t ≡ 0
+    bwd w = go (ℕ-discrete (without s t) 0)
+      where
+        go : Dec (without s t ≡ 0) → without s t ≡ 0
+        go (yes e) = e
+        go (no e) =
+            let (m, x) = some-in (without s t) (omega arith) in
+            absurd (in-without m s t .0 x .1 (w m (in-without m s t .0 x .0)))

@@ -18,6 +18,10 @@ pub passes : (fault : Bool) (n a b : ℕ) → fault ≡ false → refuseIf fault
 unfolding refuseIf
 passes fault n a b e = rw e
 
+pub refuses : (fault : Bool) (n a b : ℕ) → fault ≡ true → refuseIf fault n a b ≡ refused n a b
+unfolding refuseIf
+refuses fault n a b e = rw e
+
 pub passed : (fault : Bool) (n a b : ℕ) → refuseIf fault n a b ≡ accepted tt → fault ≡ false
 unfolding refuseIf
 passed false n a b e = refl
@@ -29,6 +33,10 @@ module _ {A B : Type 0} where
   pub then-accepts : {x : A} {v : Verdict A} (w : Verdict B) → v ≡ accepted x → (v then w) ≡ w
   unfolding _then_
   then-accepts w e = rw e
+
+  pub then-refuses : {n a b : ℕ} {v : Verdict A} (w : Verdict B) → v ≡ refused n a b → (v then w) ≡ refused n a b
+  unfolding _then_
+  then-refuses w e = rw e
 
   -- a row that accepts: the first accepts, and so does the rest
   pub then-first : (v : Verdict A) (w : Verdict B) {y : B} → (v then w) ≡ accepted y → (x : A) × (v ≡ accepted x)

@@ -1,0 +1,102 @@
+// Fields: numbers in bytes, and the tests of one field in document 01's order.
+ghost use mathlib.Core.Path.{_≡_};
+ghost use Prim.Native.Nat.{_+_, _<_, _≤_};
+ghost use lib.ListN.{length};
+ghost use Rattle.rules.specs.Bytes.{num16, num32};
+ghost use Rattle.fields.specs.Verdicts.{tested};
+ghost use Rattle.fields.specs.Fields.{sizedOf, fieldOf, repeatOf};
+
+// A refusal: document 01's name, and its a and b where they are not 0.
+pub enum Refusal {
+    Short(usize),
+    Order(usize),
+    Size(usize),
+    Range(usize),
+    Many(usize),
+    Clash(usize, usize),
+    Race(usize, usize),
+    Room(usize),
+    Ask(usize),
+}
+
+pub enum Verdict {
+    Accepted,
+    Refused(Refusal),
+}
+
+// What a function that writes answers: the number of bytes written, or a refusal.
+pub enum Answer {
+    Wrote(usize),
+    Denied(Refusal),
+}
+
+fn wide(b: u8) -> u32
+    ensures { λ r. ⌜ (r ≡ b) × (r < 256) ⌝ }
+{
+    b as u32
+}
+
+// The number in two bytes, most significant first.
+pub fn be16(s: &[u8], at: usize) -> u32
+    requires { ⌜ at + 1 < length (now s) ⌝ }
+    ensures { λ r. ⌜ (r ≡ num16 (now (s .entry)) at) × (r < 65536) ⌝ }
+{
+    wide(s[at]) * 256 + wide(s[at + 1])
+}
+
+// The number in four bytes, most significant first.
+pub fn be32(s: &[u8], at: usize) -> u32
+    requires { ⌜ at + 3 < length (now s) ⌝ }
+    ensures { λ r. ⌜ r ≡ num32 (now (s .entry)) at ⌝ }
+{
+    be16(s, at) * 65536 + be16(s, at + 2)
+}
+
+// The header and the length of the value of a field that is there, then its completeness.
+fn sized_test(s: &[u8], at: usize, size: usize) -> Verdict
+    requires { ⌜ (at + 3 ≤ length (now s)) × (size ≤ 255) ⌝ }
+    ensures { λ r. ⌜ tested r ≡ sizedOf (now (s .entry)) at size ⌝ }
+{
+    if be16(s, at + 1) != size as u32 {
+        return Verdict::Refused(Refusal::Size(at));
+    }
+    if s.len() - at < 3 + size {
+        return Verdict::Refused(Refusal::Short(at));
+    }
+    Verdict::Accepted
+}
+
+// A field that is there once: all its tests but the ranges.
+pub fn field_test(s: &[u8], at: usize, tag: u8, size: usize) -> Verdict
+    requires { ⌜ size ≤ 255 ⌝ }
+    ensures { λ r. ⌜ tested r ≡ fieldOf (now (s .entry)) at tag size ⌝ }
+{
+    let n = s.len();
+    if n <= at {
+        return Verdict::Refused(Refusal::Order(at));
+    }
+    if n - at < 3 {
+        return Verdict::Refused(Refusal::Short(at));
+    }
+    if s[at] != tag {
+        return Verdict::Refused(Refusal::Order(at));
+    }
+    sized_test(s, at, size)
+}
+
+// A field that may be repeated, at a place inside the input, when `left` more may come: all its tests but the ranges.
+pub fn repeat_test(s: &[u8], at: usize, left: usize, tag: u8, size: usize) -> Verdict
+    requires { ⌜ (at < length (now s)) × (size ≤ 255) ⌝ }
+    ensures { λ r. ⌜ tested r ≡ repeatOf (now (s .entry)) at left tag size ⌝ }
+{
+    if s.len() - at < 3 {
+        return Verdict::Refused(Refusal::Short(at));
+    }
+    if s[at] != tag {
+        return Verdict::Refused(Refusal::Order(at));
+    }
+    if left == 0 {
+        return Verdict::Refused(Refusal::Many(at));
+    }
+    sized_test(s, at, size)
+}

@@ -1,0 +1,17 @@
+-- `member` shifts bit m down to the lowest place, just as `has` divides by 2 ^ m.
+-- Assumes nothing.
+use mathlib.Core.Path.{refl}
+use Rattle.rules.specs.Sets.{has}
+use borrow.Author.Needs.{needs}
+use Rattle.sets.proofs.member.Statement.{statement}
+use Rattle.sets.proofs.member.Tie as tie
+
+shr-result : tie.Need-shr-result
+shr-result c = search needs
+
+returns : tie.Need-returns
+unfolding has
+returns c = refl
+
+pub member-spec : {M : Type 1} → statement M
+member-spec = tie.close (tie.spec shr-result returns)

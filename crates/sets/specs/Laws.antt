@@ -1,0 +1,69 @@
+-- Laws of sets that crates above this one cite, besides those of theory/proofs/Sets, Modes and Exists.
+-- Assumes nothing.
+use Prim.Native.Nat.{ℕ, zero, suc, _*_, _/_, _%_, _^_, _<_, _≤_}
+use mathlib.Core.Path.{_≡_, refl, sym, ap, _∙_}
+use mathlib.Core.Bool.{Bool, true, false, cond}
+use mathlib.Core.List.{List, [], _∷_, _++_}
+use mathlib.Core.Logic.{_↔_}
+use native.Mathlib.Nat.{one-mul}
+use native.Mathlib.Omega.{arith}
+use lib.Dec.{lit<}
+use lib.Pow.{shl-exact}
+use lib.Bits.{bitAnd, bitOr, or-zero-l, or-zero-r, and-le-l, and-le-r, xor-add-and}
+use lib.ListN.{getD, take, replicate}
+use borrow.Author.Tests.{eqb-true}
+use Rattle.rules.specs.Sets.{has, In, Within}
+use Rattle.theory.specs.Tests.{without, step}
+use Rattle.theory.proofs.Sets.{bit, bit-or, bit-suc, in-bit, says-within}
+
+-- 1 shifted by m bits, in a type of w bits
+pub one-shl : (w m : ℕ) → m < w → (1 * 2 ^ m) % 2 ^ w ≡ 2 ^ m
+one-shl w m h = shl-exact 1 m w (lit< tt) (omega arith) ∙ one-mul (2 ^ m)
+
+-- ---- a set is known by its members
+
+pub within-le : (s t : ℕ) → Within s t → s ≤ t
+unfolding without
+within-le s t w =
+    omega
+    (arith, eqb-true (without s t) 0 (says-within s t .1 w), xor-add-and s (bitAnd s t), and-le-l s (bitAnd s t), and-le-r s (bitAnd s t), and-le-r s t)
+
+pub same-members : (s t : ℕ) → ((m : ℕ) → In m s ↔ In m t) → s ≡ t
+same-members s t h = omega (arith, within-le s t (λ m. h m .0), within-le t s (λ m. h m .1))
+
+pub or-assoc : (a b c : ℕ) → bitOr a (bitOr b c) ≡ bitOr (bitOr a b) c
+or-assoc a b c =
+    same-members _ _
+    (λ m. (λ h. in-bit m _ .1 (sym (same m) ∙ in-bit m _ .0 h), λ h. in-bit m _ .1 (same m ∙ in-bit m _ .0 h)))
+  where
+    same : (m : ℕ) → bit (bitOr a (bitOr b c)) m ≡ bit (bitOr (bitOr a b) c) m
+    same m = omega (arith, bit-or a (bitOr b c) m, bit-or b c m, bit-or (bitOr a b) c m, bit-or a b m)
+
+-- ---- one turn
+
+none : (t : Bool) → _≡_ {A = ℕ} (cond t 0 0) 0
+none true = refl
+none false = refl
+
+has-half : (s m : ℕ) → has (s / 2) m ≡ has s (suc m)
+unfolding has
+has-half s m = rw (bit-suc s m)
+
+-- with one mode more: what follows it is added where it is in s
+pub step-next : (F : List ℕ) (s m : ℕ) → step (take (suc m) F) s ≡ bitOr (step (take m F) s) (cond (has s m) (getD F m 0) 0)
+unfolding step
+step-next [] s zero = rw (none (has s 0))
+step-next [] s (suc m) = rw (none (has s (suc m)))
+step-next (f ∷ fs) s zero = rw (or-zero-r, or-zero-l (cond (has s 0) f 0))
+step-next (f ∷ fs) s (suc m) = rw (step-next fs (s / 2) m, or-assoc, has-half)
+
+-- modes that nothing follows, behind the others, change nothing: a table of 32 sets does for a list that is shorter
+step-zeros : (n s : ℕ) → step (replicate n 0) s ≡ 0
+unfolding step
+step-zeros zero s = refl
+step-zeros (suc n) s = rw (none (has s 0), step-zeros n (s / 2))
+
+pub step-pad : (F : List ℕ) (n s : ℕ) → step (F ++ replicate n 0) s ≡ step F s
+unfolding step
+step-pad [] n s = step-zeros n s
+step-pad (f ∷ fs) n s = rw (step-pad fs n (s / 2))

@@ -1,0 +1,2 @@
+-- what crates above this one cite of it
+pub mod Laws

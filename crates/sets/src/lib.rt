@@ -1,0 +1,63 @@
+// Sets of boards, cells or modes, each a number: m is a member of s where bit m of s is 1. Union and intersection are `|` and `&`.
+ghost use mathlib.Core.Path.{_≡_};
+ghost use Prim.Native.Nat.{_^_, _<_, _≤_};
+ghost use lib.Dec.{ltb};
+ghost use Rattle.rules.specs.Sets.{has, shares};
+ghost use Rattle.rules.specs.Judge.{setOk};
+ghost use Rattle.theory.specs.Tests.{without, step};
+
+// m is a member of s
+pub fn member(s: u32, m: u32) -> bool
+    requires { ⌜ m < 32 ⌝ }
+    ensures { λ r. ⌜ r ≡ has s m ⌝ }
+{
+    (s >> m) % 2 == 1
+}
+
+// s and t share a member
+pub fn meets(s: u32, t: u32) -> bool
+    ensures { λ r. ⌜ r ≡ shares s t ⌝ }
+{
+    s & t != 0
+}
+
+// the members of s that are not in t
+pub fn without(s: u32, t: u32) -> u32
+    ensures { λ r. ⌜ r ≡ without s t ⌝ }
+{
+    s ^ (s & t)
+}
+
+// s names nothing beyond the first n
+pub fn is_within(n: u32, s: u64) -> bool
+    requires { ⌜ n ≤ 32 ⌝ }
+    ensures { λ r. ⌜ r ≡ ltb s (2 ^ n) ⌝ }
+{
+    s < (1u64 << n)
+}
+
+// s is not empty, and names nothing beyond the first n
+pub fn is_set_of(n: u32, s: u64) -> bool
+    requires { ⌜ n ≤ 32 ⌝ }
+    ensures { λ r. ⌜ r ≡ setOk n s ⌝ }
+{
+    if s == 0 {
+        return false;
+    }
+    is_within(n, s)
+}
+
+// one turn of a set of modes: all that follows a mode of s, where follow[m] is the set of the followers of mode m
+pub fn step(follow: [u32; 32], s: u32) -> u32
+    ensures { λ r. ⌜ r ≡ step follow s ⌝ }
+{
+    let mut all: u32 = 0;
+    let mut m: usize = 0;
+    while m < 32 {
+        if member(s, m as u32) {
+            all = all | follow[m];
+        }
+        m += 1;
+    }
+    all
+}

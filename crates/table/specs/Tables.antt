@@ -1,0 +1,130 @@
+-- The code's tables as the rules' tables, and the other way.
+-- Assumes nothing.
+use Prim.Native.Nat.{ℕ, _+_, _-_}
+use mathlib.Core.Path.{_≡_}
+use mathlib.Core.List.{List, [], _++_, map}
+use lib.ListN.{length, take, set, replicate}
+use Rattle.rules.specs.Table as rules
+use Rattle.rules.specs.Table.{nops}
+use Rattle.rules.specs.Verdicts.{accepted, refused, onwards}
+use Rattle.rules.specs.Verdicts as verdicts
+use Rattle.fields.specs.Verdicts.{tested}
+use Rattle.table.specs.declared.Op.{Op}
+use Rattle.table.specs.declared.Table.{Table}
+use Rattle.table.specs.declared.Wide.{Wide}
+use Rattle.table.specs.declared.Judged.{Judged}
+
+-- ---- from the code to the rules
+
+abbrev pub opOf : Op → rules.Op
+opOf o =
+    record {
+      start = o .start;
+      dur = o .dur;
+      boards = o .boards;
+      reads = o .reads;
+      writes = o .writes;
+      modes = o .modes;
+    }
+
+abbrev pub wideOf : Wide → rules.Op
+wideOf o =
+    record {
+      start = o .start;
+      dur = o .dur;
+      boards = o .boards;
+      reads = o .reads;
+      writes = o .writes;
+      modes = o .modes;
+    }
+
+-- the words and operations that count
+abbrev pub tableOf : Table → rules.Table
+tableOf t =
+    record {
+      len = t .len;
+      boards = t .boards;
+      cells = t .cells;
+      modes = t .modes;
+      first = t .first;
+      follow = take (t .modes) (t .follow);
+      ops = map opOf (take (t .count) (t .ops));
+    }
+
+-- a table of this length and these counts, and nothing else
+abbrev pub counted : ℕ → ℕ → ℕ → ℕ → rules.Table
+counted len boards cells modes =
+    record { len = len; boards = boards; cells = cells; modes = modes; first = 0; follow = []; ops = [] }
+
+-- ---- from the rules to the code: what does not count is zero
+
+abbrev pub opIn : rules.Op → Op
+opIn o =
+    record {
+      start = o .start;
+      dur = o .dur;
+      boards = o .boards;
+      reads = o .reads;
+      writes = o .writes;
+      modes = o .modes;
+    }
+
+abbrev pub noOp : Op
+noOp = opIn rules.noOp
+
+-- as many as n, filled up with d
+unfoldable pub padded : {A : Type 0} → ℕ → A → List A → List A
+padded n d xs = xs ++ replicate (n - length xs) d
+
+abbrev pub tableIn : rules.Table → Table
+tableIn T =
+    record {
+      len = T .len;
+      boards = T .boards;
+      cells = T .cells;
+      modes = T .modes;
+      first = T .first;
+      follow = padded 32 0 (T .follow);
+      ops = padded 32 noOp (map opIn (T .ops));
+      count = nops T;
+    }
+
+-- the table with nothing in it
+abbrev pub noTable : Table
+noTable =
+    record {
+      len = 0;
+      boards = 0;
+      cells = 0;
+      modes = 0;
+      first = 0;
+      follow = replicate 32 0;
+      ops = replicate 32 noOp;
+      count = 0;
+    }
+
+-- one operation more
+abbrev pub withOp : Table → Op → Table
+withOp t o =
+    record {
+      len = t .len;
+      boards = t .boards;
+      cells = t .cells;
+      modes = t .modes;
+      first = t .first;
+      follow = t .follow;
+      ops = set (t .ops) (t .count) o;
+      count = t .count + 1;
+    }
+
+-- ---- a verdict with its table
+
+-- what the table is: the accepted one, or the empty one
+abbrev pub tableFor : verdicts.Verdict rules.Table → Table
+tableFor (accepted T) = tableIn T
+tableFor (refused n a b) = noTable
+
+-- r is the verdict v: its number, a and b, and its table to the last word
+pub record JudgedAs (v : verdicts.Verdict rules.Table) (r : Judged) : Type 0 where
+  pub said : tested (r .verdict) ≡ onwards v (λ T. accepted tt)
+  pub table : r .table ≡ tableFor v
