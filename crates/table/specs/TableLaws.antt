@@ -1,7 +1,7 @@
 -- Laws of the code's tables: what the tests of an operation come to, and how a table is read back and grows.
 -- Assumes nothing.
 use Prim.Native.Nat.{ℕ, zero, suc, _+_, _-_, _^_, _<_, _≤_}
-use mathlib.Core.Path.{_≡_, refl, sym, ap, _∙_}
+use mathlib.Core.Path.{_≡_, refl, sym, ap, subst⁻¹, _∙_}
 use mathlib.Core.Bool.{true, false, _&&_}
 use mathlib.Core.List.{List, [], _∷_, _++_, map, append-assoc}
 use native.Mathlib.Omega.{arith}
@@ -14,7 +14,7 @@ use borrow.Author.Tests.{lt-leb, le-leb}
 use Rattle.rules.specs.Table as rules
 use Rattle.rules.specs.Judge.{opOk, setOk, withOps}
 use Rattle.theory.proofs.Judging.{says-op}
-use Rattle.table.specs.Tables.{opOf, opIn, noOp, padded, tableOf, tableIn, withOp}
+use Rattle.table.specs.Tables.{opOf, opIn, noOp, padded, tableOf, tableIn, withOp, Good}
 use Rattle.table.specs.declared.Op.{Op}
 
 -- ---- the tests of an operation, one after the other
@@ -98,3 +98,9 @@ with-op-in T os o h =
       map-snoc os o,
       length-append os (o ∷ []),
     )
+
+-- a table that was judged and accepted is one that the engine takes
+pub good-in : (T : rules.Table) → rules.Accepted T → Good (tableIn T)
+good-in T ok =
+    let e = table-back T (ok .words) in
+    record { accepted = subst⁻¹ (λ (U : rules.Table). rules.Accepted U) e ok; tidy = ap tableIn (sym e) }

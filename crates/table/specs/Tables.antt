@@ -128,3 +128,8 @@ tableFor (refused n a b) = noTable
 pub record JudgedAs (v : verdicts.Verdict rules.Table) (r : Judged) : Type 0 where
   pub said : tested (r .verdict) ≡ onwards v (λ T. accepted tt)
   pub table : r .table ≡ tableFor v
+
+-- ---- what the engine takes: an accepted table, with zeros where nothing counts
+pub record Good (t : Table) : Type 0 where
+  pub accepted : rules.Accepted (tableOf t)
+  pub tidy : t ≡ tableIn (tableOf t)

@@ -90,7 +90,7 @@ module _ (T : Table) (ok : Accepted T) where
   shut-in s f e (turn {a = a} {b = b} x h) =
       or-same s (step (T .follow) s) e b (in-step (T .follow) s b .1 (a, shut-in s f e x, h))
 
-  shut-reach : (s : ℕ) → Within (T .first) s → ((m : ℕ) → In m s → Reach T m) → bitOr s (step (T .follow) s) ≡ s → IsReach T s
+  pub shut-reach : (s : ℕ) → Within (T .first) s → ((m : ℕ) → In m s → Reach T m) → bitOr s (step (T .follow) s) ≡ s → IsReach T s
   unfolding IsReach
   shut-reach s f g e a = (g a, λ x. shut-in s f e x)
 
