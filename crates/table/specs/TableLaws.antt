@@ -8,14 +8,15 @@ use native.Mathlib.Omega.{arith}
 use native.Mathlib.Numerals.{add-one}
 use lib.Dec.{ltb}
 use lib.Pow.{pow-mono}
-use lib.ListN.{length, take, set, replicate, length-map, length-append}
-use lib.Seq.{take-at, set-at}
+use lib.ListN.{length, getD, take, set, replicate, length-map, length-append, List·getD-map}
+use lib.Seq.{take-at, set-at, getD-take, length-take-le}
 use borrow.Author.Tests.{lt-leb, le-leb}
 use Rattle.rules.specs.Table as rules
 use Rattle.rules.specs.Judge.{opOk, setOk, withOps}
 use Rattle.theory.proofs.Judging.{says-op}
 use Rattle.table.specs.Tables.{opOf, opIn, noOp, padded, tableOf, tableIn, withOp, Good}
 use Rattle.table.specs.declared.Op.{Op}
+use Rattle.table.specs.declared.Table.{Table}
 
 -- ---- the tests of an operation, one after the other
 module _ (T : rules.Table) (o : rules.Op) where
@@ -104,3 +105,19 @@ pub good-in : (T : rules.Table) → rules.Accepted T → Good (tableIn T)
 good-in T ok =
     let e = table-back T (ok .words) in
     record { accepted = subst⁻¹ (λ (U : rules.Table). rules.Accepted U) e ok; tidy = ap tableIn (sym e) }
+
+-- ---- the operations that count
+pub op-at : (t : Table) (i : ℕ) → i < t .count → rules.op (tableOf t) i ≡ opOf (getD (t .ops) i noOp)
+op-at t i h = List·getD-map opOf (take (t .count) (t .ops)) i noOp ∙ ap opOf (getD-take (t .count) (t .ops) i noOp h)
+
+pub nops-count : (t : Table) → t .count ≤ length (t .ops) → rules.nops (tableOf t) ≡ t .count
+nops-count t h = length-map (take (t .count) (t .ops)) opOf ∙ length-take-le (t .count) (t .ops) h
+
+pub good-count : (t : Table) → Good t → t .count ≡ rules.nops (tableOf t)
+good-count t good = ap (λ (u : Table). u .count) (good .tidy)
+
+pub good-few : (t : Table) → Good t → t .count ≤ 32
+good-few t good = omega (arith, good-count t good, good .accepted .ops-high)
+
+pub good-op : (t : Table) → Good t → (i : ℕ) → i < t .count → rules.OpOk (tableOf t) (opOf (getD (t .ops) i noOp))
+good-op t good i h = rw (← op-at t i h) (good .accepted .each i (omega (arith, good-count t good)))

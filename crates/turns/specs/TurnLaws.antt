@@ -2,22 +2,23 @@
 -- Assumes nothing.
 use Prim.Native.Nat.{ℕ, zero, suc, _+_, _-_, _/_, _^_, _<_}
 use mathlib.Core.Path.{_≡_, refl, sym, ap, ap₂, subst, _∙_}
+use mathlib.Core.Bool.{Bool, cond}
 use mathlib.Core.Logic.{_↔_, inl}
 use mathlib.Core.List.{List, [], _∷_, _++_}
 use native.Mathlib.Nat.{pow-suc}
 use native.Mathlib.Omega.{arith}
-use lib.Bits.{bitOr, and-zero-r, xor-zero-r}
-use lib.ListN.{length, getD, length-append, List·getD-append}
+use lib.Bits.{bitOr, and-zero-r, or-zero-l, or-zero-r, xor-zero-r}
+use lib.ListN.{length, take, getD, length-append, List·getD-append}
 use lib.Seq.{getD-at}
 use Rattle.rules.specs.Sets.{In, Within}
 use Rattle.rules.specs.Table as rules
-use Rattle.theory.specs.Tests.{without, step, via}
+use Rattle.theory.specs.Tests.{without, step, via, modesOf}
 use Rattle.theory.specs.Walks.{Reach, begin, turn, Walk, Any}
 use Rattle.theory.proofs.Order.{Cmp, cmp}
 use Rattle.theory.proofs.Sets.{in-none, in-zero, in-suc, in-small, in-or}
 use Rattle.theory.proofs.Modes.{IsReach, in-step, in-via, walk-map, grown}
 use Rattle.theory.proofs.Exists.{shut-reach}
-use Rattle.sets.specs.Laws.{same-members, step-pad}
+use Rattle.sets.specs.Laws.{same-members, or-assoc, step-pad}
 use Rattle.table.specs.Tables.{tableOf, padded, Good}
 use Rattle.table.specs.declared.Table.{Table}
 use Rattle.turns.specs.Turns.{tab, singles, nextRow, rowAfter, blockFrom}
@@ -189,3 +190,11 @@ growing-more first F all g =
 pub growing-end : (t : Table) → Good t → (all : ℕ) → Growing (t .first) (t .follow) all → bitOr all (step (t .follow) all) ≡ all → IsReach (tableOf t) all
 growing-end t good all g e =
     shut-reach (tableOf t) (good .accepted) all (g .starts) (λ m h. reach-good t good (g .sound m h)) (rw (good-step t good all) at e)
+
+-- ---- the modes of the operations that pass a test, with one operation more
+pub modes-next : (f : rules.Op → Bool) (os : List rules.Op) (k : ℕ) → k < length os
+    → modesOf f (take (suc k) os) ≡ bitOr (modesOf f (take k os)) (cond (f (getD os k rules.noOp)) (getD os k rules.noOp .modes) 0)
+unfolding modesOf
+modes-next f [] k h = absurd (omega arith)
+modes-next f (o ∷ os) zero h = rw (or-zero-r, or-zero-l (cond (f o) (o .modes) 0))
+modes-next f (o ∷ os) (suc k) h = rw (modes-next f os k (omega arith), or-assoc)

@@ -1,0 +1,43 @@
+-- The operations stand behind the head, and what is stored from the front stands before the rest of the buffer.
+-- Assumes nothing.
+use Prim.Native.Nat.{_≤_}
+use mathlib.Core.Path.{_≡_, sym, ap, _∙_}
+use mathlib.Core.List.{List}
+use native.Mathlib.Omega.{arith}
+use lib.ListN.{length, length-map}
+use denote.Ref.{now}
+use borrow.Author.Needs.{needs}
+use Rattle.rules.specs.Bytes.{tableBytes}
+use Rattle.table.specs.Tables.{tableOf}
+use Rattle.puts.specs.Puts.{stored}
+use Rattle.puts.specs.PutLaws.{stored-then, stored-front}
+use Rattle.handed.specs.WritingLaws.{head-size, table-size, table-parts}
+use Rattle.handed.proofs.put_table.Statement.{statement}
+use Rattle.handed.proofs.put_table.Tie as tie
+
+put-head-requires : tie.Need-put-head-requires
+put-head-requires c κs = search needs
+
+put-ops-requires : tie.Need-put-ops-requires
+put-ops-requires c κs = search needs
+
+same-length : tie.Need-same-length
+same-length c = search needs
+
+returns : tie.Need-returns
+returns c =
+    let x2 = c .before .before in
+    let x1 = x2 .before .before .before .before in
+    let s = x1 .before .before .before in
+    let t = s .args .t in
+    let out = now (s .args .out) in
+    let words : length (t .follow) ≡ 32 = simp length-map at (s .good .1 .0 .1 .1 .1 .1 .1 .1 .1 .0 .1 .0 .1) in
+    let ops : length (t .ops) ≡ 32 = simp length-map at (s .good .1 .0 .1 .1 .1 .1 .1 .1 .1 .1 .0 .1 .0 .1) in
+    let size = table-size t words (s .pre .0 .modes) ops (s .pre .0 .count) in
+    let room : length (tableBytes (tableOf t)) ≤ length out = omega (arith, s .pre .1) in
+    stored-then out 0 _ _ (x1 .put-head .ensures) (omega (arith, head-size t words (s .pre .0 .modes))) (x2 .put-ops .ensures)
+    ∙ ap (λ (l : List _). stored out 0 l) (sym (table-parts t))
+    ∙ stored-front out (tableBytes (tableOf t)) room
+
+pub put-table-spec : {M : Type 1} → statement M
+put-table-spec = tie.close (tie.spec put-head-requires put-ops-requires same-length returns)

@@ -1,0 +1,99 @@
+-- The tests stand in the order of the definition: the first that decides answers, and the last answers for itself.
+-- Assumes nothing.
+use borrow.Author.Needs.{needs}
+use Rattle.rules.specs.Judge.{races}
+use Rattle.pairs.specs.PairLaws.{is-so, is-not}
+use Rattle.pairs.proofs.race.Statement.{statement}
+use Rattle.pairs.proofs.race.Tie as tie
+
+meets-requires : tie.Need-meets-requires
+meets-requires c κs = search needs
+
+returns : tie.Need-returns
+unfolding races
+returns c = rw (is-not (c .before .meets .ensures) (c .if1 .taken))
+
+cast-overlap : tie.Need-cast-overlap
+cast-overlap c = search needs
+
+end-of-requires : tie.Need-end-of-requires
+end-of-requires c κs = search needs
+
+cast-overlap-2 : tie.Need-cast-overlap-2
+cast-overlap-2 c = search needs
+
+end-of-requires-2 : tie.Need-end-of-requires-2
+end-of-requires-2 c κs = search needs
+
+overlap-requires : tie.Need-overlap-requires
+overlap-requires c κs = search needs
+
+returns-2 : tie.Need-returns-2
+unfolding races
+returns-2 c =
+    let h2 = c .before .before in
+    let h1 = h2 .before .before in
+    let e1 = h1 .before .before in
+    rw (
+      is-so (e1 .before .meets .ensures) (e1 .if1 .left),
+      ← h1 .end-of .ensures,
+      ← h2 .end-of2 .ensures,
+      is-not (c .before .overlap .ensures) (c .if2 .taken),
+    )
+
+meets-requires-2 : tie.Need-meets-requires-2
+meets-requires-2 c κs = search needs
+
+returns-3 : tie.Need-returns-3
+unfolding races
+returns-3 c =
+    let e2 = c .before .before .before in
+    let h2 = e2 .before .before in
+    let h1 = h2 .before .before in
+    let e1 = h1 .before .before in
+    rw (
+      is-so (e1 .before .meets .ensures) (e1 .if1 .left),
+      ← h1 .end-of .ensures,
+      ← h2 .end-of2 .ensures,
+      is-so (e2 .before .overlap .ensures) (e2 .if2 .left),
+      ← c .before .meets2 .ensures,
+      c .if3 .taken,
+    )
+
+meets-requires-3 : tie.Need-meets-requires-3
+meets-requires-3 c κs = search needs
+
+returns-4 : tie.Need-returns-4
+unfolding races
+returns-4 c =
+    let e3 = c .before in
+    let e2 = e3 .before .before .before in
+    let h2 = e2 .before .before in
+    let h1 = h2 .before .before in
+    let e1 = h1 .before .before in
+    rw (
+      is-so (e1 .before .meets .ensures) (e1 .if1 .left),
+      ← h1 .end-of .ensures,
+      ← h2 .end-of2 .ensures,
+      is-so (e2 .before .overlap .ensures) (e2 .if2 .left),
+      ← e3 .before .meets2 .ensures,
+      e3 .if3 .left,
+    )
+    (c .meets3 .ensures)
+
+pub race-spec : {M : Type 1} → statement M
+race-spec =
+    tie.close
+    (tie.spec
+    meets-requires
+    returns
+    cast-overlap
+    end-of-requires
+    cast-overlap-2
+    end-of-requires-2
+    overlap-requires
+    returns-2
+    meets-requires-2
+    returns-3
+    meets-requires-3
+    returns-4)

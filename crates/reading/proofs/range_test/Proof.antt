@@ -1,0 +1,15 @@
+-- The range test refuses where the range is not kept.
+-- Assumes nothing.
+use mathlib.Core.Path.{sym}
+use Rattle.fields.specs.FieldLaws.{ranged-no, ranged-yes}
+use Rattle.reading.proofs.range_test.Statement.{statement}
+use Rattle.reading.proofs.range_test.Tie as tie
+
+returns : tie.Need-returns
+returns c = sym (ranged-yes _ _ (c .if1 .taken))
+
+returns-2 : tie.Need-returns-2
+returns-2 c = sym (ranged-no _ _ (c .if1 .left))
+
+pub range-test-spec : {M : Type 1} → statement M
+range-test-spec = tie.close (tie.spec returns returns-2)

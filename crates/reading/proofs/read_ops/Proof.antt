@@ -1,0 +1,108 @@
+-- The operations so far are those that come before the rest, and the table holds them.
+-- Assumes nothing.
+use denote.Ref.{now}
+use Prim.Native.Nat.{_-_}
+use mathlib.Core.Path.{sym, ap, _∙_}
+use native.Mathlib.Omega.{arith}
+use lib.ListN.{length}
+use borrow.Author.Needs.{needs}
+use Rattle.reading.specs.Reading.{nextOf}
+use Rattle.reading.specs.ReadingLaws.{SoFar, head-fits, head-modes, so-none, so-fits, so-bad, so-more, so-end}
+use Rattle.reading.proofs.read_ops.Statement.{statement}
+use Rattle.reading.proofs.read_ops.Tie as tie
+
+abbrev Inv-loop : tie.InvT-loop
+Inv-loop s none t₀ at₀ t at = SoFar s t at
+
+abbrev μ-loop : tie.MeasureT-loop
+μ-loop s none t₀ at₀ t at = length s - at
+
+empty-requires : tie.Need-empty-requires Inv-loop μ-loop
+empty-requires c κs = search needs
+
+read-head-requires : tie.Need-read-head-requires Inv-loop μ-loop
+read-head-requires c κs = c .before .before .pre
+
+ops-place-requires : tie.Need-ops-place-requires Inv-loop μ-loop
+ops-place-requires c κs =
+    let a = c .before .before .before in
+    let fits = head-fits (now (a .args .s)) (a .pre) in
+    omega (arith, head-modes (now (a .args .s)) _ (c .read-head .ensures))
+
+loop-holds : tie.Need-loop-holds Inv-loop μ-loop
+loop-holds c = rw (c .ops-place .ensures) (so-none _ _ (c .before .read-head .ensures))
+
+next-op-requires : tie.Need-next-op-requires Inv-loop μ-loop
+next-op-requires c κs =
+    let i = c .before in
+    let a = i .before .before .before .before .before in
+    let fits = so-fits (i .loop .inv) (head-fits (now (a .args .s)) (a .pre)) in
+    (c .loop-test .taken, fits .0, fits .1, fits .2, fits .3)
+
+enum-known-next : tie.Need-enum-known-next Inv-loop μ-loop
+enum-known-next c = search needs
+
+returns : tie.Need-returns Inv-loop μ-loop
+returns c =
+    let f = c .before .before .before in
+    let i = f .before .before in
+    so-bad (i .loop .inv) (c .before .next .given .0 .0) (i .before .before .before .empty .ensures) (f .before .loop-test .taken)
+    (ap nextOf (sym (c .before .next .given .1)) ∙ f .next-op .ensures)
+
+enum-known-next-2 : tie.Need-enum-known-next-2 Inv-loop μ-loop
+enum-known-next-2 c = search needs
+
+with-op-requires : tie.Need-with-op-requires Inv-loop μ-loop
+with-op-requires c κs =
+    let n = c .before in
+    let f = n .before .before in
+    let i = f .before .before in
+    let so = so-more (i .loop .inv) (n .next2 .given .0 .0) (f .before .loop-test .taken) (ap nextOf (sym (n .next2 .given .1)) ∙ f .next-op .ensures) in
+    so .1
+
+add-at : tie.Need-add-at Inv-loop μ-loop
+add-at c =
+    let n = c .before .before in
+    let f = n .before .before in
+    let i = f .before .before in
+    let so = so-more (i .loop .inv) (n .next2 .given .0 .0) (f .before .loop-test .taken) (ap nextOf (sym (n .next2 .given .1)) ∙ f .next-op .ensures) in
+    omega (arith, so .0, i .before .before .before .before .before .good .0 .0)
+
+loop-less : tie.Need-loop-less Inv-loop μ-loop
+loop-less c =
+    let n = c .before .before in
+    let f = n .before .before in
+    let i = f .before .before in
+    let so = so-more (i .loop .inv) (n .next2 .given .0 .0) (f .before .loop-test .taken) (ap nextOf (sym (n .next2 .given .1)) ∙ f .next-op .ensures) in
+    omega (arith, so .0)
+
+loop-again : tie.Need-loop-again Inv-loop μ-loop
+loop-again c =
+    let n = c .before .before in
+    let f = n .before .before in
+    let i = f .before .before in
+    let so = so-more (i .loop .inv) (n .next2 .given .0 .0) (f .before .loop-test .taken) (ap nextOf (sym (n .next2 .given .1)) ∙ f .next-op .ensures) in
+    rw (c .with-op .ensures) (so .2)
+
+returns-2 : tie.Need-returns-2 Inv-loop μ-loop
+returns-2 c = so-end (c .before .loop .inv) (omega arith)
+
+pub read-ops-spec : {M : Type 1} → statement M
+read-ops-spec =
+    tie.close
+    (tie.spec
+    Inv-loop
+    μ-loop
+    empty-requires
+    read-head-requires
+    ops-place-requires
+    loop-holds
+    next-op-requires
+    enum-known-next
+    returns
+    enum-known-next-2
+    with-op-requires
+    add-at
+    loop-less
+    loop-again
+    returns-2)

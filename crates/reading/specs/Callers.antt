@@ -1,0 +1,102 @@
+-- What crates above cite: how the judge goes on from the verdict without CLASH and RACE, and what that verdict accepts.
+-- Assumes nothing.
+use Prim.Native.Nat.{ℕ, _≤_}
+use mathlib.Core.Path.{_≡_, refl, sym, ap, _∙_}
+use mathlib.Core.List.{List}
+use native.Mathlib.Omega.{arith}
+use lib.ListN.{length}
+use Rattle.rules.specs.Table as rules
+use Rattle.rules.specs.Table.{nops, noOp}
+use Rattle.rules.specs.Verdicts.{Verdict, accepted, refused, _then_, onwards}
+use Rattle.rules.specs.Bytes.{opAt}
+use Rattle.rules.specs.Judge.{opOk, headOf, withOps, opsPlace, headTest, opsFrom, judgeWhole, judge}
+use Rattle.theory.proofs.Verdicts.{never-refused, then-first, then-rest, onwards-accepts, onwards-first}
+use Rattle.theory.proofs.Judging.{says-counts, fields-passing, head-ok, judge-row}
+use Rattle.fields.specs.declared.Refusal.{Refusal}
+use Rattle.fields.specs.declared.Verdict.the-variants.{Accepted, Refused}
+use Rattle.fields.specs.Verdicts.{refusalOf, tested}
+use Rattle.table.specs.declared.Table.{Table}
+use Rattle.table.specs.declared.Judged.{Judged}
+use Rattle.table.specs.Tables.{tableOf, tableIn, noTable, tableFor, JudgedAs}
+use Rattle.table.specs.TableLaws.{table-back}
+use Rattle.reading.specs.Reading.{opsVerdict, fieldsVerdict}
+use Rattle.reading.specs.ReadingLaws.{refusal, judged-refused}
+
+-- a test, a verdict, and what is done with what they accept
+go-on : {A B C D : Type 0} (u : Verdict A) (v : Verdict B) (g : B → C) (f : C → Verdict D)
+    → (u then onwards v (λ x. f (g x))) ≡ onwards (u then onwards v (λ x. accepted (g x))) f
+unfolding _then_ onwards
+go-on (accepted x) (accepted y) g f = refl
+go-on (accepted x) (refused n a b) g f = refl
+go-on (refused n a b) v g f = refl
+
+-- a refusal of the code is one whatever would be done with what is accepted
+still-refused : (v : Verdict rules.Table) (f : rules.Table → Verdict rules.Table) (r : Judged) (x : Refusal)
+    → JudgedAs v r → r .verdict ≡ Refused x → JudgedAs (onwards v f) r
+unfolding onwards
+still-refused (accepted T) f r x j e =
+    let (n, a, b, z, _) = refusal (Unit {0}) (Unit {0}) x in never-refused (sym z ∙ sym (ap tested e) ∙ j .said)
+still-refused (refused n a b) f r x j e = j
+
+-- the counts of a table whose fields are accepted
+pub record FieldsOk (T : rules.Table) : Type 0 where
+  pub ops-high : nops T ≤ 32
+  pub modes-high : T .modes ≤ 32
+  pub words : length (T .follow) ≡ T .modes
+
+module _ (s : List ℕ) where
+  -- the judge asks for CLASH and RACE of what is accepted without them
+  pub judge-fields : judge s ≡ onwards (fieldsVerdict s) judgeWhole
+  unfolding fieldsVerdict opsVerdict
+  judge-fields =
+      judge-row s
+      ∙ go-on (headTest s) (opsFrom (headOf s) s 32 (opsPlace (headOf s .modes))) (λ os. withOps (headOf s) os) judgeWhole
+
+  pub fields-ok : (T : rules.Table) → fieldsVerdict s ≡ accepted T → FieldsOk T
+  unfolding fieldsVerdict opsVerdict opsFrom
+  fields-ok T e =
+      let H = headOf s in
+      let (head, _) = head-ok s (then-first (headTest s) _ e .1) in
+      let (os, come, whole) = onwards-first (opsFrom H s 32 (opsPlace (H .modes))) _ (then-rest (headTest s) _ e) in
+      let passing = fields-passing 4 18 (opOk H) opAt s noOp 32 (opsPlace (H .modes)) os come in
+      let counts = says-counts (H .boards) (H .cells) (H .modes) .0 (head .counts) in
+      let same : T ≡ withOps H os = cc in
+      rw same (record { ops-high = passing .few; modes-high = counts .1 .1 .1 .1; words = head .words })
+
+  -- ---- the code's answer r to it
+  module _ (r : Judged) (j : JudgedAs (fieldsVerdict s) r) where
+    -- a refusal is the judge's
+    pub read-refused : (x : Refusal) → r .verdict ≡ Refused x → JudgedAs (judge s) r
+    read-refused x e = rw judge-fields (still-refused (fieldsVerdict s) judgeWhole r x j e)
+
+    -- a table that is accepted is the rules' table, and nothing else
+    module _ (e : r .verdict ≡ Accepted) where
+      accepted-table : (T : rules.Table) × (fieldsVerdict s ≡ accepted T) × (r .table ≡ tableIn T)
+      accepted-table =
+          let (T, v, _) = onwards-first (fieldsVerdict s) _ (sym (sym (ap tested e) ∙ j .said)) in (T, v, j .table ∙ ap tableFor v)
+
+      pub read-few : r .table .count ≤ 32
+      read-few =
+          let (T, v, t) = accepted-table in
+          let count : r .table .count ≡ nops T = ap (λ (u : Table). u .count) t in
+          omega (arith, fields-ok T v .ops-high)
+
+      pub read-fields : fieldsVerdict s ≡ accepted (tableOf (r .table))
+      read-fields = let (T, v, t) = accepted-table in v ∙ ap accepted (sym (ap tableOf t ∙ table-back T (fields-ok T v .words)))
+
+      pub read-table : r .table ≡ tableIn (tableOf (r .table))
+      read-table =
+          let (T, v, t) = accepted-table in t ∙ ap tableIn (sym (ap tableOf t ∙ table-back T (fields-ok T v .words)))
+
+      -- the judge goes on with it
+      pub read-whole : judge s ≡ judgeWhole (tableOf (r .table))
+      read-whole = judge-fields ∙ onwards-accepts judgeWhole read-fields
+
+      pub read-passed : judgeWhole (tableOf (r .table)) ≡ accepted (tableOf (r .table)) → JudgedAs (judge s) r
+      read-passed h =
+          let whole : judge s ≡ accepted (tableOf (r .table)) = read-whole ∙ h in
+          record { said = ap tested e ∙ sym (onwards-accepts _ whole); table = read-table ∙ sym (ap tableFor whole) }
+
+      pub read-hit : (x : Refusal) {none : Table} → none ≡ noTable → refusalOf x ≡ judgeWhole (tableOf (r .table))
+          → JudgedAs (judge s) (record { verdict = Refused x; table = none })
+      read-hit x z h = judged-refused x (judge s) z (h ∙ sym read-whole)

@@ -1,0 +1,4 @@
+pub mod Reading
+pub mod WordLaws
+pub mod ReadingLaws
+pub mod Callers

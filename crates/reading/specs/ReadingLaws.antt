@@ -1,0 +1,284 @@
+-- What each way out of the reading says: heads that pass, operations one after the other, and refusals.
+-- Assumes nothing.
+use Prim.Native.Nat.{ℕ, zero, suc, _+_, _-_, _*_, _<_, _≤_}
+use mathlib.Core.Path.{_≡_, refl, sym, ap, _∙_}
+use mathlib.Core.Bool.{Bool, true, false}
+use mathlib.Core.List.{List, [], _∷_, _++_, append-assoc, append-nil}
+use native.Mathlib.Omega.{arith}
+use lib.ListN.{length, length-append}
+use borrow.Author.Tests.{le-leb, lt-leb}
+use Rattle.rules.specs.Table as rules
+use Rattle.rules.specs.Verdicts.{Verdict, accepted, refused, SHORT, ORDER, SIZE, RANGE, MANY, CLASH, RACE, ROOM, ASK, Test, _then_, onwards, more}
+use Rattle.rules.specs.Bytes.{num8, opAt}
+use Rattle.rules.specs.Judge.{needed, ranged, fieldTest, repeatTest, opOk, headOf, headTest, withOps, opsPlace, opsFrom, fieldsFrom}
+use Rattle.theory.proofs.Verdicts.{then-accepts, then-refuses, then-first, onwards-accepts}
+use Rattle.theory.proofs.Judging.{says-counts, field-passed, head-row, head-ok, fields-end, fields-next}
+use Rattle.fields.specs.declared.Refusal.{Refusal}
+use Rattle.fields.specs.declared.Refusal.the-variants.{Short, Order, Size, Range, Many, Clash, Race, Room, Ask}
+use Rattle.fields.specs.declared.Verdict as code
+use Rattle.fields.specs.declared.Verdict.the-variants.{Accepted, Refused}
+use Rattle.fields.specs.Verdicts.{refusalOf, tested}
+use Rattle.fields.specs.Fields.{fieldOf, repeatOf}
+use Rattle.fields.specs.FieldLaws.{field-split, repeat-split, repeat-passed, ranged-no, ranged-yes}
+use Rattle.table.specs.declared.Op.{Op}
+use Rattle.table.specs.declared.Table.{Table}
+use Rattle.table.specs.Tables.{opOf, counted, tableOf, tableIn, noTable, tableFor, withOp, JudgedAs}
+use Rattle.table.specs.TableLaws.{with-op-in}
+use Rattle.reading.specs.Reading.{lenTest, countsTest, modesTest, opVerdict, opsVerdict}
+use Rattle.reading.specs.WordLaws.{sets-first}
+
+-- ---- refusals
+
+-- a refusal's number, a and b, whatever would have been accepted
+pub refusal : (A B : Type 0) (r : Refusal)
+    → (n : ℕ) × (a : ℕ) × (b : ℕ) × (refusalOf {A = A} r ≡ refused n a b) × (refusalOf {A = B} r ≡ refused n a b)
+refusal A B (Short at) = (SHORT, at, 0, refl, refl)
+refusal A B (Order at) = (ORDER, at, 0, refl, refl)
+refusal A B (Size at) = (SIZE, at, 0, refl, refl)
+refusal A B (Range at) = (RANGE, at, 0, refl, refl)
+refusal A B (Many at) = (MANY, at, 0, refl, refl)
+refusal A B (Clash i j) = (CLASH, i, j, refl, refl)
+refusal A B (Race i j) = (RACE, i, j, refl, refl)
+refusal A B (Room n) = (ROOM, n, 0, refl, refl)
+refusal A B (Ask place) = (ASK, place, 0, refl, refl)
+
+-- a refusal stays one whatever comes behind it
+pub refusal-then : {A B : Type 0} (r : Refusal) {v : Verdict A} (w : Verdict B) → refusalOf r ≡ v → refusalOf r ≡ (v then w)
+refusal-then {A} {B} r w e = let (n, a, b, x, y) = refusal A B r in y ∙ sym (then-refuses w (sym e ∙ x))
+
+onwards-refuses : {A B : Type 0} {v : Verdict A} (f : A → Verdict B) {n a b : ℕ} → v ≡ refused n a b → onwards v f ≡ refused n a b
+unfolding onwards
+onwards-refuses f e = rw e
+
+pub refusal-onwards : {A B : Type 0} (r : Refusal) {v : Verdict A} (f : A → Verdict B) → refusalOf r ≡ v → refusalOf r ≡ onwards v f
+refusal-onwards {A} {B} r f e = let (n, a, b, x, y) = refusal A B r in y ∙ sym (onwards-refuses f (sym e ∙ x))
+
+-- a test of the code that passes, and one that refuses
+module _ {v : code.Verdict} {w : Test} (e : tested v ≡ w) where
+  pub passed-as : v ≡ Accepted → accepted tt ≡ w
+  passed-as h = sym (ap tested h) ∙ e
+
+  pub refused-as : {r : Refusal} → v ≡ Refused r → refusalOf r ≡ w
+  refused-as h = sym (ap tested h) ∙ e
+
+-- the code's answer to what is refused
+pub judged-refused : (r : Refusal) (v : Verdict rules.Table) {none : Table} → none ≡ noTable → refusalOf r ≡ v
+    → JudgedAs v (record { verdict = Refused r; table = none })
+judged-refused r v z e =
+    let (n, a, b, x, y) = refusal rules.Table (Unit {0}) r in
+    record { said = refusal-onwards r _ e; table = z ∙ sym (ap tableFor (sym e ∙ x)) }
+
+-- ---- one field
+
+module _ (s : List ℕ) (at tag size : ℕ) (ok : Bool) where
+  -- a field is refused where its tests before the ranges refuse
+  pub field-bad : (r : Refusal) → refusalOf r ≡ fieldOf s at tag size → refusalOf r ≡ fieldTest s at tag size ok
+  field-bad r e = refusal-then r _ e ∙ sym (field-split s at tag size ok)
+
+  -- and where they pass, the ranges decide
+  pub field-ranged : (b : Bool) → accepted tt ≡ fieldOf s at tag size → b ≡ ok → ranged b at ≡ fieldTest s at tag size ok
+  field-ranged b e h = ap (λ (x : Bool). ranged x at) h ∙ sym (field-split s at tag size ok ∙ then-accepts _ (sym e))
+
+-- the ranges of an operation ask only for the table's length and counts
+pub op-judged : (T : rules.Table) {w o : rules.Op} {b : Bool} → b ≡ opOk (counted (T .len) (T .boards) (T .cells) (T .modes)) w → w ≡ o → opOk T o ≡ b
+unfolding opOk
+op-judged T e h = sym (e ∙ ap (opOk T) h)
+
+module _ (T : rules.Table) (s : List ℕ) (left at : ℕ) where
+  op-split : opVerdict T s left at ≡ ((repeatOf s at left 4 18 then ranged (opOk T (opAt s at)) at) then accepted (opAt s at))
+  unfolding opVerdict
+  op-split = rw (repeat-split s at 4 18 (opOk T (opAt s at)) left)
+
+  -- likewise an operation's field
+  pub op-bad : (r : Refusal) → refusalOf r ≡ repeatOf s at left 4 18 → refusalOf r ≡ opVerdict T s left at
+  op-bad r e = refusal-then r _ (refusal-then r (ranged (opOk T (opAt s at)) at) e) ∙ sym op-split
+
+  module _ (e : accepted tt ≡ repeatOf s at left 4 18) where
+    op-first : (repeatOf s at left 4 18 then ranged (opOk T (opAt s at)) at) ≡ ranged (opOk T (opAt s at)) at
+    op-first = then-accepts _ (sym e)
+
+    pub op-whole : at + 21 ≤ length s
+    op-whole = omega (arith, repeat-passed s at 4 18 left (sym e) .0)
+
+    pub op-range : opOk T (opAt s at) ≡ false → refused RANGE at 0 ≡ opVerdict T s left at
+    op-range h = sym (op-split ∙ then-refuses _ (op-first ∙ ranged-no _ at h))
+
+    pub op-fine : opOk T (opAt s at) ≡ true → accepted (opAt s at) ≡ opVerdict T s left at
+    op-fine h = sym (op-split ∙ then-accepts _ (op-first ∙ ranged-yes _ at h))
+
+-- ---- heads
+
+-- what the reading needs of a head that passes
+pub record HeadFits (s : List ℕ) : Type 0 where
+  pub place : 18 + 4 * num8 s 10 < length s
+  pub boards : num8 s 8 ≤ 32
+  pub cells : num8 s 9 ≤ 32
+  pub modes : num8 s 10 ≤ 32
+
+module _ (s : List ℕ) where
+  -- the tests of the head, one after the other
+  pub head-tests : headTest s ≡ (lenTest s then countsTest s then modesTest (num8 s 10) s then needed s (18 + 4 * num8 s 10))
+  unfolding headOf
+  head-tests = head-row s ∙ rw (← sets-first s (num8 s 10) (num8 s 10))
+
+  module _ (len : accepted tt ≡ lenTest s) where
+    pub after-len : headTest s ≡ (countsTest s then modesTest (num8 s 10) s then needed s (18 + 4 * num8 s 10))
+    after-len = head-tests ∙ then-accepts _ (sym len)
+
+    module _ (counts : accepted tt ≡ countsTest s) where
+      pub after-counts : headTest s ≡ (modesTest (num8 s 10) s then needed s (18 + 4 * num8 s 10))
+      after-counts = after-len ∙ then-accepts _ (sym counts)
+
+      pub after-modes : accepted tt ≡ modesTest (num8 s 10) s → headTest s ≡ needed s (18 + 4 * num8 s 10)
+      after-modes modes = after-counts ∙ then-accepts _ (sym modes)
+
+  -- counts that pass
+  pub counts-fit : accepted tt ≡ countsTest s → (11 ≤ length s) × (num8 s 10 ≤ 32)
+  counts-fit e =
+      let (whole, ok) = field-passed s 5 2 3 _ (sym e) in (
+        whole,
+        says-counts (num8 s 8) (num8 s 9) (num8 s 10) .0 ok .1 .1 .1 .1,
+      )
+
+  pub head-fits : headTest s ≡ accepted tt → HeadFits s
+  unfolding headOf
+  head-fits e =
+      let (ok, place) = head-ok s e in
+      let counts = says-counts (num8 s 8) (num8 s 9) (num8 s 10) .0 (ok .counts) in
+      record {
+        place = place;
+        boards = omega (arith, counts .1 .0);
+        cells = counts .1 .1 .0;
+        modes = counts .1 .1 .1 .1;
+      }
+
+-- ---- operations
+
+-- several in front of what is accepted
+unfoldable pub mores : {A : Type 0} → List A → Verdict (List A) → Verdict (List A)
+mores xs v = onwards v (λ ys. accepted (xs ++ ys))
+
+module _ {A : Type 0} where
+  mores-none : (v : Verdict (List A)) → mores [] v ≡ v
+  unfolding mores onwards
+  mores-none (accepted ys) = refl
+  mores-none (refused n a b) = refl
+
+  mores-more : (xs : List A) (x : A) (v : Verdict (List A)) → mores xs (more x v) ≡ mores (xs ++ (x ∷ [])) v
+  unfolding mores onwards more
+  mores-more xs x (accepted ys) = ap accepted (sym (append-assoc xs (x ∷ []) ys))
+  mores-more xs x (refused n a b) = refl
+
+-- a test, and what follows where it passes
+then-onwards : {A B : Type 0} (v : Test) (w : Verdict B) (x : A) (f : A → Verdict B) → (v ≡ accepted tt → w ≡ f x)
+    → (v then w) ≡ onwards (v then accepted x) f
+unfolding _then_ onwards
+then-onwards (accepted y) w x f e = e refl
+then-onwards (refused n a b) w x f e = refl
+
+module _ (T : rules.Table) (s : List ℕ) where
+  -- an operation that passes is whole, and was allowed to come
+  op-passed : (left at : ℕ) → repeatTest s at left 4 18 (opOk T (opAt s at)) ≡ accepted tt → (at + 3 + 18 ≤ length s) × (left ≡ 0 → ⊥)
+  op-passed left at e =
+      repeat-passed s at 4 18 left (then-first (repeatOf s at left 4 18) _ (sym (repeat-split s at 4 18 (opOk T (opAt s at)) left) ∙ e) .1)
+
+  ops-end : (left at : ℕ) → length s ≤ at → opsFrom T s left at ≡ accepted []
+  unfolding opsFrom
+  ops-end zero at h = fields-end 4 18 (opOk T) opAt s at ∙ rw (le-leb (length s) at h)
+  ops-end (suc left) at h = fields-next 4 18 (opOk T) opAt s left at ∙ rw (le-leb (length s) at h)
+
+  -- the operation at a place inside the input, and those behind it
+  ops-next : (left at : ℕ) → at < length s
+      → opsFrom T s left at ≡ onwards (opVerdict T s left at) (λ o. more o (opsFrom T s (left - 1) (at + 21)))
+  unfolding opsFrom opVerdict
+  ops-next zero at h =
+      fields-end 4 18 (opOk T) opAt s at
+      ∙ rw (lt-leb (length s) at h)
+      (then-onwards (repeatTest s at 0 4 18 (opOk T (opAt s at))) (accepted []) (opAt s at) _ (λ e. absurd (op-passed 0 at e .1 refl)))
+  ops-next (suc left) at h =
+      let p : at + 3 + 18 ≡ at + 21 = omega arith in
+      let l : suc left - 1 ≡ left = omega arith in
+      fields-next 4 18 (opOk T) opAt s left at
+      ∙ rw (lt-leb (length s) at h)
+      (then-onwards (repeatTest s at (suc left) 4 18 (opOk T (opAt s at))) _ (opAt s at)
+      (λ o. more o (fieldsFrom 4 18 (opOk T) opAt s (suc left - 1) (at + 21)))
+      (λ e. rw (l, p)))
+
+-- where the reading of the operations stands: these are read, the table holds them, and the rest comes from a place on
+pub record SoFar (s : List ℕ) (t : Table) (at : ℕ) : Type 0 where
+  pub ops : List rules.Op
+  pub few : length ops ≤ 32
+  pub held : t ≡ tableIn (withOps (headOf s) ops)
+  pub rest : opsFrom (headOf s) s 32 (opsPlace (headOf s .modes)) ≡ mores ops (opsFrom (headOf s) s (32 - length ops) at)
+
+-- at first nothing is read
+module _ (s : List ℕ) (t : Table) (e : t ≡ tableIn (headOf s)) where
+  pub head-modes : t .modes ≡ num8 s 10
+  unfolding headOf
+  head-modes = ap (λ (u : Table). u .modes) e
+
+  pub so-none : SoFar s t (opsPlace (t .modes))
+  unfolding headOf
+  so-none =
+      let place = ap (λ (n : ℕ). opsFrom (headOf s) s 32 (18 + 4 * n)) head-modes in
+      record { ops = []; few = omega arith; held = e; rest = sym (mores-none _ ∙ place) }
+
+module _ {s : List ℕ} {t : Table} {at : ℕ} (so : SoFar s t at) where
+  -- the counts of the table are those of the head
+  pub so-fits : HeadFits s → (t .count ≤ 32) × (t .boards ≤ 32) × (t .cells ≤ 32) × (t .modes ≤ 32)
+  unfolding headOf
+  so-fits fits =
+      let count : t .count ≡ length (so .ops) = ap (λ (u : Table). u .count) (so .held) in
+      let boards : t .boards ≡ num8 s 8 = ap (λ (u : Table). u .boards) (so .held) in
+      let cells : t .cells ≡ num8 s 9 = ap (λ (u : Table). u .cells) (so .held) in
+      let modes : t .modes ≡ num8 s 10 = ap (λ (u : Table). u .modes) (so .held) in
+      (omega arith, omega arith, omega arith, omega arith)
+
+  -- so the next field is judged by the table as it is by the head
+  so-same : opVerdict (tableOf t) s (32 - t .count) at ≡ opVerdict (headOf s) s (32 - length (so .ops)) at
+  unfolding opVerdict opOk
+  so-same = ap (λ (u : Table). opVerdict (tableOf u) s (32 - u .count) at) (so .held)
+
+  -- a field that is refused
+  pub so-bad : (r : Refusal) {none : Table} → none ≡ noTable → at < length s → refusalOf r ≡ opVerdict (tableOf t) s (32 - t .count) at
+      → JudgedAs (opsVerdict s) (record { verdict = Refused r; table = none })
+  unfolding opsVerdict mores
+  so-bad r z h e =
+      let next = refusal-onwards r _ (e ∙ so-same) ∙ sym (ops-next (headOf s) s (32 - length (so .ops)) at h) in
+      judged-refused r _ z (refusal-onwards r _ (refusal-onwards r _ next ∙ sym (so .rest)))
+
+  -- one more operation
+  pub so-more : (o : Op) → at < length s → accepted (opOf o) ≡ opVerdict (tableOf t) s (32 - t .count) at
+      → (at + 21 ≤ length s) × (t .count < 32) × SoFar s (withOp t o) (at + 21)
+  unfolding opVerdict
+  so-more o h e =
+      let H = headOf s in
+      let os = so .ops in
+      let here = sym (e ∙ so-same) in
+      let (whole, some) = op-passed H s (32 - length os) at (then-first _ _ here .1) in
+      let count : t .count ≡ length os = ap (λ (u : Table). u .count) (so .held) in
+      let few : length os < 32 = omega arith in
+      let longer = length-append os (opOf o ∷ []) in
+      let left : 32 - length os - 1 ≡ 32 - length (os ++ (opOf o ∷ [])) = omega (arith, longer) in (
+        omega arith,
+        omega arith,
+        record {
+          ops = os ++ (opOf o ∷ []);
+          few = omega (arith, longer);
+          held = ap (λ (u : Table). withOp u o) (so .held) ∙ with-op-in H os (opOf o) few;
+          rest =
+              so .rest
+              ∙ ap (mores os) (ops-next H s (32 - length os) at h ∙ onwards-accepts _ here)
+              ∙ mores-more os (opOf o) _
+              ∙ ap (λ (n : ℕ). mores (os ++ (opOf o ∷ [])) (opsFrom H s n (at + 21))) left;
+        },
+      )
+
+  -- the end of the input
+  pub so-end : length s ≤ at → JudgedAs (opsVerdict s) (record { verdict = Accepted; table = t })
+  unfolding opsVerdict mores
+  so-end h =
+      let os = so .ops in
+      let read = so .rest ∙ onwards-accepts _ (ops-end (headOf s) s (32 - length os) at h) ∙ ap accepted (append-nil os) in
+      let whole : opsVerdict s ≡ accepted (withOps (headOf s) os) = onwards-accepts _ read in
+      record { said = sym (onwards-accepts _ whole); table = so .held ∙ sym (ap tableFor whole) }

@@ -1,0 +1,26 @@
+-- The remainder is what the whole quotient leaves.
+-- Assumes nothing.
+use Prim.Native.Nat.{ℕ, _-_, _*_, _/_, _%_}
+use mathlib.Core.Path.{_≡_, ap}
+use native.Mathlib.Nat.{div-add-mod'}
+use native.Mathlib.Omega.{arith}
+use Rattle.rules.specs.Rows.{Row, ticks, cycles}
+use borrow.Author.Needs.{needs}
+use Rattle.rows.proofs.fold.Statement.{statement}
+use Rattle.rows.proofs.fold.Tie as tie
+
+rem-t5 : tie.Need-rem-t5
+rem-t5 c = search needs
+
+div-t7 : tie.Need-div-t7
+div-t7 c = search needs
+
+returns : tie.Need-returns
+returns c = 
+    let a = c .args .t .0 in
+    let q = c .args .q .0 in
+    let e : a % q ≡ a - a / q * q = omega (arith, div-add-mod' a q) in
+    ap (λ (s : ℕ). record { start = ticks s; fst = cycles (a / q) }) e
+
+pub fold-spec : {M : Type 1} → statement M
+fold-spec = tie.close (tie.spec rem-t5 div-t7 returns)

@@ -1,0 +1,5 @@
+pub mod Bounds
+pub mod RaiseLaws
+pub mod WriteLaws
+pub mod CarryLaws
+pub mod BoundLaws
