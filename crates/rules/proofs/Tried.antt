@@ -5,24 +5,87 @@ use Prim.Native.Nat.{ℕ, zero, suc, _/_, _%_, _^_, _<_, _≤_}
 use mathlib.Core.Path.{_≡_, refl, subst}
 use mathlib.Core.Bool.{false≢true}
 use mathlib.Core.List.{List, [], _∷_, _++_, map}
+use mathlib.Core.Logic.{inl, inr}
+use native.Mathlib.Decide.{decLt}
 use native.Mathlib.Nat.{div-eq-of-lt}
 use native.Mathlib.Omega.{arith}
+use lib.IntN.{pos, negsuc}
 use lib.Pow.{pow-mono}
 use lib.ListN.{length, getD, take, replicate}
 use borrow.Author.Tests.{eqb-true}
-use Rattle.rules.specs.Sets.{has, In, Overlap}
-use Rattle.rules.specs.Table.{Table, op, followers}
-use Rattle.rules.specs.Runs.{mode, IsRun, Runs, plainStart, plainEnd, Source, BoardsRightAt, ValuesRightAt, Right, spaced}
-use Rattle.rules.specs.Rows.{ticks, replyOf, startsOf}
+use Rattle.rules.specs.Sets.{has, In, Share, Within, Overlap}
+use Rattle.rules.specs.Table.{Op, Table, op, followers, Clash, Contest, Race, Accepted}
+use Rattle.rules.specs.Runs.{mode, IsRun, Runs, plainStart, plainEnd, Source, BoardsRightAt, ValuesRightAt, Right, spaced, IsPeriod}
+use Rattle.rules.specs.Better.{OpBetter, Better}
+use Rattle.rules.specs.Rows.{ticks, replyOf, startsOf, margin}
 use Rattle.rules.specs.Verdicts.{Verdict, accepted, refused, Test}
-use Rattle.rules.specs.Bytes.{tableBytes, joined, replyBytes}
+use Rattle.rules.specs.Bytes.{tableBytes, longestTable, joined, replyBytes, startsBytes}
 use Rattle.rules.specs.Judge.{judge, judgeNumbers, judgeReply}
-use Rattle.rules.specs.Answers.{put, written, marginTest}
-use Rattle.rules.specs.Bench.{step, oneMode, k1, k1-bytes, k2, k3, k5, k7, k8, k9, k10, k10-touching, row}
+use Rattle.rules.specs.Answers.{put, written, bytesOf, IsUnfold, marginTest}
+use Rattle.rules.specs.Bench.{opn, oneMode, k1, k1-bytes, k2, k3, k4, k5, k6, k7, k8, k9, k10, k10-touching, row}
+
+-- ---- members of small sets
+
+-- a set below 2 ^ n has no member from n on
+in-small : (n s m : ℕ) → s < 2 ^ n → n ≤ m → In m s → ⊥
+unfolding has
+in-small n s m small h x =
+    let far : 2 ^ n ≤ 2 ^ m = pow-mono h in omega (arith, eqb-true (s / 2 ^ m % 2) 1 x, div-eq-of-lt {n = s} {m = 2 ^ m} (omega arith))
+
+in-zero : (m : ℕ) → In m 0 → ⊥
+in-zero m = in-small 0 0 m (omega arith) (omega arith)
+
+only-zero : (m : ℕ) → In m 1 → m ≡ 0
+only-zero zero h = refl
+only-zero (suc m) h = absurd (in-small 1 1 (suc m) (omega arith) (omega arith) h)
+
+only-one : (m : ℕ) → In m 2 → m ≡ 1
+unfolding has
+only-one zero h = absurd (false≢true h)
+only-one (suc zero) h = refl
+only-one (suc (suc m)) h = absurd (in-small 2 2 (suc (suc m)) (omega arith) (omega arith) h)
 
 -- ---- "Two operations that touch (one ends where the other starts) do not overlap."
 pub touching : Overlap 0 2 2 3 → ⊥
 touching x = omega arith
+
+-- ---- clash and race: K10's two operations; on one board and in different modes there is no clash
+pub k10-clash : Clash (op k10 0) (op k10 1)
+unfolding has
+k10-clash = record { board = (0, refl, refl); mode = (0, refl, refl); lap = omega arith }
+
+pub modes-apart : Clash (opn 0 2 1 0 0 1) (opn 0 2 1 0 0 2) → ⊥
+unfolding has
+modes-apart x = no-mode (x .mode)
+  where
+    no-mode : Share 1 2 → ⊥
+    no-mode (m, a, b) = omega (arith, only-zero m a, only-one m b)
+
+-- "one writes a cell that the other reads or writes": the first writes and the second reads, the other way round, and both write
+pub race-read : Race (opn 0 2 1 0 1 1) (opn 1 2 2 1 0 1)
+unfolding has
+race-read = record { mode = (0, refl, refl); lap = omega arith; cell = (0, inl (refl, inl refl)) }
+
+pub race-written : Race (opn 0 2 1 1 0 1) (opn 1 2 2 0 1 1)
+unfolding has
+race-written = record { mode = (0, refl, refl); lap = omega arith; cell = (0, inr (refl, refl)) }
+
+pub race-both : Race (opn 0 2 1 0 1 1) (opn 1 2 2 0 1 1)
+unfolding has
+race-both = record { mode = (0, refl, refl); lap = omega arith; cell = (0, inl (refl, inr refl)) }
+
+-- two that only read do not race
+pub two-readers : Race (opn 0 2 1 1 0 1) (opn 1 2 2 1 0 1) → ⊥
+unfolding has
+two-readers x = go (x .cell .1)
+  where
+    go : Contest (opn 0 2 1 1 0 1) (opn 1 2 2 1 0 1) (x .cell .0) → ⊥
+    go (inl (w, y)) = in-zero (x .cell .0) w
+    go (inr (y, w)) = in-zero (x .cell .0) w
+
+-- K10 is not accepted
+pub k10-not : Accepted k10 → ⊥
+k10-not ok = ok .no-clash 0 1 (omega arith) (omega arith) k10-clash
 
 -- ---- order at one date: in K8 the reader, which starts when the first write of its cycle ends, takes that write ..
 pub k8-source : Source k8 (0 ∷ 0 ∷ []) 0 (plainStart k8 1 1) 0 1
@@ -96,14 +159,6 @@ k7-wrong right =
     let h = right (0 ∷ 1 ∷ 2 ∷ []) run7 0 0 0 1 2 (record { cycle = omega arith; isOp = omega arith; inMode = refl }) refl k7-source in omega arith
 
 -- ---- modes that no run reaches: K9 is right at 1
-only-one : (m : ℕ) → In m 2 → m ≡ 1
-unfolding has
-only-one zero h = absurd (false≢true h)
-only-one (suc zero) h = refl
-only-one (suc (suc m)) h =
-    let far : 2 ^ 2 ≤ 2 ^ suc (suc m) = pow-mono {i = 2} {j = suc (suc m)} (omega arith) in
-    absurd (omega (arith, eqb-true (2 / 2 ^ suc (suc m) % 2) 1 h, div-eq-of-lt {n = 2} {m = 2 ^ suc (suc m)} (omega arith)))
-
 k9-mode : (r : List ℕ) → IsRun k9 r → (k : ℕ) → k < length r → mode r k ≡ 1
 k9-mode r run zero h = only-one (mode r 0) (run .begins)
 k9-mode r run (suc k) h =
@@ -123,6 +178,79 @@ k9-right =
       values = λ r run c i k j l y v s. absurd (k9-idle r run l j y);
     }
 
+-- so its period is 1 and no other: 0 is none, and a longer one is not the smallest
+pub k9-period : IsPeriod k9 1 × ((q : ℕ) → IsPeriod k9 q → q ≡ 1)
+k9-period = (
+  record { low = omega arith; high = omega arith; right = k9-right; least = λ q low h. absurd (omega arith) },
+  λ q x. only q x (decLt 1 q),
+)
+  where
+    only : (q : ℕ) → IsPeriod k9 q → Dec (1 < q) → q ≡ 1
+    only q x (yes h) = absurd (x .least 1 (omega arith) h k9-right)
+    only q x (no h) = omega arith
+
+-- ---- better knowledge: a table with two modes and one operation, by its first modes, followers, boards and duration
+abbrev known : ℕ → List ℕ → ℕ → ℕ → Table
+known first follow boards dur =
+    record { len = 4; boards = 2; cells = 1; modes = 2; first = first; follow = follow; ops = opn 0 dur boards 1 1 3 ∷ [] }
+
+-- a set below 4 is within another where its members 0 and 1 are
+two-within : (s t : ℕ) → s < 4 → (In 0 s → In 0 t) → (In 1 s → In 1 t) → Within s t
+two-within s t h a b zero x = a x
+two-within s t h a b (suc zero) x = b x
+two-within s t h a b (suc (suc m)) x = absurd (in-small 2 s (suc (suc m)) h (omega arith) x)
+
+-- K5 permits fewer turns than K6
+k5-turns : (a : ℕ) → Within (followers k5 a) (followers k6 a)
+unfolding has
+k5-turns zero = two-within 2 3 (omega arith) (λ _. refl) (λ _. refl)
+k5-turns (suc zero) = two-within 1 3 (omega arith) (λ _. refl) (λ _. refl)
+k5-turns (suc (suc a)) = λ m h. h
+
+pub k5-better : Better k6 k5
+k5-better = record { len = refl; count = refl; each = same; firsts = λ m h. h; turns = k5-turns }
+  where
+    same : (i : ℕ) → i < 2 → OpBetter (op k6 i) (op k5 i)
+    same i h = record { start = refl; reads = refl; writes = refl; modes = refl; dur = omega arith; boards = λ m x. x }
+
+-- a shorter duration, a board less, a first mode less, a turn less in each mode
+pub all-better : Better (known 3 (3 ∷ 3 ∷ []) 3 4) (known 1 (2 ∷ 1 ∷ []) 2 3)
+unfolding has
+all-better = record { len = refl; count = refl; each = op-better; firsts = two-within 1 3 (omega arith) (λ _. refl) (λ _. refl); turns = k5-turns }
+  where
+    op-better : (i : ℕ) → i < 1 → OpBetter (op (known 3 (3 ∷ 3 ∷ []) 3 4) i) (op (known 1 (2 ∷ 1 ∷ []) 2 3) i)
+    op-better zero h =
+        record {
+          start = refl;
+          reads = refl;
+          writes = refl;
+          modes = refl;
+          dur = omega arith;
+          boards = two-within 2 3 (omega arith) (λ _. refl) (λ _. refl);
+        }
+    op-better (suc i) h = absurd (omega arith)
+
+-- not better: a longer duration, a board more, a first mode more, a turn more
+pub longer-not : Better (known 1 (2 ∷ 1 ∷ []) 1 3) (known 1 (2 ∷ 1 ∷ []) 1 4) → ⊥
+longer-not x = omega (arith, x .each 0 (omega arith) .dur)
+
+pub board-not : Better (known 1 (2 ∷ 1 ∷ []) 1 3) (known 1 (2 ∷ 1 ∷ []) 3 3) → ⊥
+unfolding has
+board-not x = false≢true (x .each 0 (omega arith) .boards 1 refl)
+
+pub first-not : Better (known 1 (2 ∷ 1 ∷ []) 1 3) (known 3 (2 ∷ 1 ∷ []) 1 3) → ⊥
+unfolding has
+first-not x = false≢true (x .firsts 1 refl)
+
+pub turn-not : Better (known 1 (2 ∷ 1 ∷ []) 1 3) (known 1 (3 ∷ 1 ∷ []) 1 3) → ⊥
+unfolding has
+turn-not x = false≢true (x .turns 0 0 refl)
+
+-- ---- the margin on K4: of the first operation and the second, and the other way round at distance 1 and 2
+pub k4-margins : margin k4 0 1 1 3 ∷ margin k4 1 0 1 3 ∷ margin k4 1 0 2 3 ∷ [] ≡ pos 5 ∷ negsuc 0 ∷ pos 2 ∷ []
+unfolding margin
+k4-margins = refl
+
 -- ---- fold and unfold, K2 and K3
 pub k2-folded : replyOf k2 2 ≡ record { period = ticks 2; rows = row 0 0 ∷ row 0 1 ∷ row 0 2 ∷ [] }
 unfolding replyOf
@@ -135,6 +263,11 @@ k3-folded = refl
 pub k3-unfolded : startsOf (replyOf k3 4) ≡ ticks 0 ∷ ticks 2 ∷ ticks 4 ∷ []
 unfolding replyOf startsOf
 k3-unfolded = refl
+
+-- "Unfolding writes the starts in order, 2 bytes each."
+pub k3-starts : startsBytes (startsOf (replyOf k3 4)) ≡ 0 ∷ 0 ∷ 0 ∷ 2 ∷ 0 ∷ 4 ∷ []
+unfolding startsBytes startsOf replyOf
+k3-starts = refl
 
 -- ---- the reply of document 01's example
 pub k1-reply : replyBytes (replyOf k1 3) ≡ 17 ∷ 0 ∷ 2 ∷ 0 ∷ 3 ∷ 18 ∷ 0 ∷ 4 ∷ 0 ∷ 1 ∷ 0 ∷ 0 ∷ []
@@ -149,7 +282,7 @@ k1-written = refl
 -- K1 with another length, another duration, its operation n times
 k1-with : ℕ → ℕ → ℕ → List ℕ
 unfolding tableBytes
-k1-with p d n = tableBytes (oneMode p 1 0 (replicate n (step 1 d 1 0 0 1)))
+k1-with p d n = tableBytes (oneMode p 1 0 (replicate n (opn 1 d 1 0 0 1)))
 
 -- document 01's own cases, and what is easily got wrong: the order of the tests within a field and between fields
 pub inputs : List (List ℕ)
@@ -200,9 +333,9 @@ verdicts =
     ∷ refused 3 43 0
     ∷ refused 1 43 0
     ∷ refused 4 0 0
-    ∷ accepted (oneMode 1000 1 0 (step 1 3 1 0 0 1 ∷ []))
+    ∷ accepted (oneMode 1000 1 0 (opn 1 3 1 0 0 1 ∷ []))
     ∷ refused 4 22 0
-    ∷ accepted (oneMode 5 1 0 (step 1 4 1 0 0 1 ∷ []))
+    ∷ accepted (oneMode 5 1 0 (opn 1 4 1 0 0 1 ∷ []))
     ∷ refused 6 0 1
     ∷ refused 1 64 0
     ∷ refused 6 0 1
@@ -217,14 +350,40 @@ pub judged : map judge inputs ≡ verdicts
 unfolding judge inputs verdicts
 judged = refl
 
--- "operations 0 and 1 race, 2 and 3 clash": all of CLASH comes before RACE
-pub clash-first : judge (tableBytes (oneMode 4 4 1 (step 0 2 1 0 1 1 ∷ step 1 2 2 1 0 1 ∷ step 0 2 4 0 0 1 ∷ step 1 2 4 0 0 1 ∷ []))) ≡ refused 6 2 3
+-- operations 0 and 1 race, 2 and 3 clash: all of CLASH comes before RACE
+pub clash-first : judge (tableBytes (oneMode 4 4 1 (opn 0 2 1 0 1 1 ∷ opn 1 2 2 1 0 1 ∷ opn 0 2 4 0 0 1 ∷ opn 1 2 4 0 0 1 ∷ []))) ≡ refused 6 2 3
 unfolding judge tableBytes
 clash-first = refl
 
-pub race-next : judge (tableBytes (oneMode 4 4 1 (step 0 2 1 0 1 1 ∷ step 1 2 2 1 0 1 ∷ step 0 2 4 0 0 1 ∷ step 2 2 4 0 0 1 ∷ []))) ≡ refused 7 0 1
+pub race-next : judge (tableBytes (oneMode 4 4 1 (opn 0 2 1 0 1 1 ∷ opn 1 2 2 1 0 1 ∷ opn 0 2 4 0 0 1 ∷ opn 2 2 4 0 0 1 ∷ []))) ≡ refused 7 0 1
 unfolding judge tableBytes
 race-next = refl
+
+-- ---- "The longest table has 818 bytes": 32 modes, each follows each, and 32 operations, each in a tick of its own
+ticks-each : ℕ → List Op
+ticks-each zero = []
+ticks-each (suc n) = opn n 1 65535 4294967295 4294967295 4294967295 ∷ ticks-each n
+
+pub largest : Table
+unfolding ticks-each
+largest =
+    record {
+      len = 1000;
+      boards = 16;
+      cells = 32;
+      modes = 32;
+      first = 4294967295;
+      follow = replicate 32 4294967295;
+      ops = ticks-each 32;
+    }
+
+pub largest-length : length (tableBytes largest) ≡ longestTable
+unfolding tableBytes largest
+largest-length = refl
+
+pub largest-judged : judge (tableBytes largest) ≡ accepted largest
+unfolding judge tableBytes largest
+largest-judged = refl
 
 -- ---- a table handed over as numbers: K1's with another length, boards, first modes, follower words, operations' numbers
 handed : ℕ → ℕ → ℕ → List ℕ → List ℕ → Verdict Table
@@ -303,6 +462,12 @@ pub k1-rest : put (replyBytes (replyOf k1 3)) (replicate 14 9)
     ≡ record { answer = accepted 12; buffer = replyBytes (replyOf k1 3) ++ (9 ∷ 9 ∷ []) }
 unfolding put replyBytes replyOf
 k1-rest = refl
+
+-- K1's reply unfolds to its start, in a buffer of 3
+pub k1-unfolded : IsUnfold (17 ∷ 0 ∷ 2 ∷ 0 ∷ 3 ∷ 18 ∷ 0 ∷ 4 ∷ 0 ∷ 1 ∷ 0 ∷ 0 ∷ []) (replicate 3 9)
+    (record { answer = accepted 2; buffer = 0 ∷ 1 ∷ 9 ∷ [] })
+unfolding written bytesOf judgeReply startsBytes startsOf
+k1-unfolded = refl
 
 pub kept : written (refused 4 22 0) (replicate 3 9) ≡ record { answer = refused 4 22 0; buffer = replicate 3 9 }
 unfolding written

@@ -1,17 +1,18 @@
 -- Document 01, "Bench tables": K1 to K10, those marked to be proved, each with its whole answer, as one list.
 -- Assumes nothing.
 use Prim.Native.Nat.{ℕ}
+use mathlib.Core.Bool.{Bool, false}
 use mathlib.Core.List.{List, [], _∷_}
 use lib.IntN.{ℤ, pos, negsuc}
 use Rattle.rules.specs.Table.{Op, Table}
 use Rattle.rules.specs.Rows.{Row, Reply, ticks, cycles}
 use Rattle.rules.specs.Verdicts.{Verdict, accepted, refused}
 use Rattle.rules.specs.Bytes.{tableBytes}
-use Rattle.rules.specs.Answers.{ReplyTo, IsMargin}
+use Rattle.rules.specs.Answers.{ReplyTo, IsMargin, IsRight}
 
 -- ---- how they are written down: start, duration, boards, reads, writes, modes
-abbrev pub step : ℕ → ℕ → ℕ → ℕ → ℕ → ℕ → Op
-step t d b r w m = record { start = t; dur = d; boards = b; reads = r; writes = w; modes = m }
+abbrev pub opn : ℕ → ℕ → ℕ → ℕ → ℕ → ℕ → Op
+opn t d b r w m = record { start = t; dur = d; boards = b; reads = r; writes = w; modes = m }
 
 -- "One mode that follows itself unless said": length, boards, cells, operations
 abbrev pub oneMode : ℕ → ℕ → ℕ → List Op → Table
@@ -26,19 +27,19 @@ k1-bytes =
     ∷ 0 ∷ 0 ∷ 0 ∷ 0 ∷ 0 ∷ 0 ∷ 0 ∷ 0 ∷ 0 ∷ 0 ∷ 0 ∷ 1 ∷ []
 
 abbrev pub k1 : Table
-k1 = oneMode 5 1 0 (step 1 3 1 0 0 1 ∷ [])
+k1 = oneMode 5 1 0 (opn 1 3 1 0 0 1 ∷ [])
 
 -- "K2*: p 6; [0,2) board 0 writes c0; [2,4) board 1 reads c0 writes c1; [4,6) board 2 reads c1."
 abbrev pub k2 : Table
-k2 = oneMode 6 3 2 (step 0 2 1 0 1 1 ∷ step 2 2 2 1 2 1 ∷ step 4 2 4 2 0 1 ∷ [])
+k2 = oneMode 6 3 2 (opn 0 2 1 0 1 1 ∷ opn 2 2 2 1 2 1 ∷ opn 4 2 4 2 0 1 ∷ [])
 
 -- "K3*: K2, and the first also reads c1."
 abbrev pub k3 : Table
-k3 = oneMode 6 3 2 (step 0 2 1 2 1 1 ∷ step 2 2 2 1 2 1 ∷ step 4 2 4 2 0 1 ∷ [])
+k3 = oneMode 6 3 2 (opn 0 2 1 2 1 1 ∷ opn 2 2 2 1 2 1 ∷ opn 4 2 4 2 0 1 ∷ [])
 
--- "K4*: p 4; [0,1) and [3,4) on board 0."
+-- "K4*: p 4; [0,1) and [3,4) on board 0. Period 2, though 3 is not right."
 abbrev pub k4 : Table
-k4 = oneMode 4 1 0 (step 0 1 1 0 0 1 ∷ step 3 1 1 0 0 1 ∷ [])
+k4 = oneMode 4 1 0 (opn 0 1 1 0 0 1 ∷ opn 3 1 1 0 0 1 ∷ [])
 
 -- "K5*: p 4; two modes that alternate, first is mode 0; [0,4) board 0 in mode 0; [0,4) board 1 in mode 1."
 abbrev pub twoModes : List ℕ → Table
@@ -50,7 +51,7 @@ twoModes f =
       modes = 2;
       first = 1;
       follow = f;
-      ops = step 0 4 1 0 0 1 ∷ step 0 4 2 0 0 2 ∷ [];
+      ops = opn 0 4 1 0 0 1 ∷ opn 0 4 2 0 0 2 ∷ [];
     }
 
 abbrev pub k5 : Table
@@ -70,12 +71,12 @@ k7 =
       modes = 3;
       first = 1;
       follow = 2 ∷ 4 ∷ 1 ∷ [];
-      ops = step 4 2 2 0 1 1 ∷ step 0 1 1 1 0 4 ∷ [];
+      ops = opn 4 2 2 0 1 1 ∷ opn 0 1 1 1 0 4 ∷ [];
     }
 
 -- "K8*: p 6; [0,2) board 0 writes c0; [2,3) board 1 reads c0; [3,6) board 2 writes c0."
 abbrev pub k8 : Table
-k8 = oneMode 6 3 1 (step 0 2 1 0 1 1 ∷ step 2 1 2 1 0 1 ∷ step 3 3 4 0 1 1 ∷ [])
+k8 = oneMode 6 3 1 (opn 0 2 1 0 1 1 ∷ opn 2 1 2 1 0 1 ∷ opn 3 3 4 0 1 1 ∷ [])
 
 -- "K9*: p 4, two modes that each follow themselves, first is 1; [0,4) in mode 0 only."
 abbrev pub k9 : Table
@@ -87,15 +88,15 @@ k9 =
       modes = 2;
       first = 2;
       follow = 1 ∷ 2 ∷ [];
-      ops = step 0 4 1 0 0 1 ∷ [];
+      ops = opn 0 4 1 0 0 1 ∷ [];
     }
 
 -- "K10*: p 3; [0,2) and [1,3) on one board ..  With [0,2) and [2,3) accepted."
 abbrev pub k10 : Table
-k10 = oneMode 3 1 0 (step 0 2 1 0 0 1 ∷ step 1 2 1 0 0 1 ∷ [])
+k10 = oneMode 3 1 0 (opn 0 2 1 0 0 1 ∷ opn 1 2 1 0 0 1 ∷ [])
 
 abbrev pub k10-touching : Table
-k10-touching = oneMode 3 1 0 (step 0 2 1 0 0 1 ∷ step 2 1 1 0 0 1 ∷ [])
+k10-touching = oneMode 3 1 0 (opn 0 2 1 0 0 1 ∷ opn 2 1 1 0 0 1 ∷ [])
 
 -- ---- the list
 abbrev pub row : ℕ → ℕ → Row
@@ -104,15 +105,18 @@ row s f = record { start = ticks s; fst = cycles f }
 abbrev pub reply : ℕ → List Row → Verdict Reply
 reply q rs = accepted (record { period = ticks q; rows = rs })
 
--- a case: a table's bytes with the reply to them, or with a margin of theirs
+-- a case: a table's bytes, what is asked of them (the reply, a margin, whether q is right), and the whole answer or refusal
 pub data Case : Type 0 where
   replies : List ℕ → Verdict Reply → Case
   margins : List ℕ → (i j n q : ℕ) → Verdict ℤ → Case
+  rights : List ℕ → ℕ → Verdict Bool → Case
 
--- what a case claims, in the words of the public answers
+-- what a case claims: that the answer beside the bytes is the answer by the rules. A reply is that of the smallest period that is right in
+-- every run, folded; "right" is right in every run; a refusal is the first that is due.
 unfoldable pub Holds : Case → Type 0
 Holds (replies s v) = ReplyTo s v
 Holds (margins s i j n q v) = IsMargin s i j n q v
+Holds (rights s q v) = IsRight s q v
 
 -- each case of a list
 unfoldable pub All : {A : Type 0} → (A → Type 0) → List A → Type 0
@@ -131,6 +135,7 @@ bench =
     ∷ table k2 (reply 2 (row 0 0 ∷ row 0 1 ∷ row 0 2 ∷ []))
     ∷ table k3 (reply 4 (row 0 0 ∷ row 2 0 ∷ row 0 1 ∷ []))
     ∷ table k4 (reply 2 (row 0 0 ∷ row 1 1 ∷ []))
+    ∷ rights (tableBytes k4) 3 (accepted false)
     ∷ table k5 (reply 2 (row 0 0 ∷ row 0 0 ∷ []))
     ∷ table k6 (reply 4 (row 0 0 ∷ row 0 0 ∷ []))
     ∷ table k7 (reply 3 (row 1 1 ∷ row 0 0 ∷ []))

@@ -16,7 +16,7 @@ pub record OpBetter (o u : Op) : Type 0 where
   pub boards : Within (u .boards) (o .boards)
 
 -- "two accepted tables with the same length and, step for step, ..; and let the second permit no turn and no first mode that the first
--- doesn't"
+-- doesn't". That both are accepted is no part of it: the theorem asks for it (`better-right`, in the crate `theory`).
 pub record Better (first second : Table) : Type 0 where
   pub len : second .len ≡ first .len
   pub count : nops second ≡ nops first

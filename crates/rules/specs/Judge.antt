@@ -167,7 +167,7 @@ headTest s =
     then fieldTest s 11 3 (4 + 4 * T .modes) (setOk (T .modes) (T .first) && eachSetOk (T .modes) (T .follow))
     then needed s (opsPlace (T .modes))
 
--- the operations' fields, 32 at most
+-- the operations' fields from a place to the end of the input, when so many more may come
 unfoldable pub opsFrom : Table → List ℕ → ℕ → ℕ → Verdict (List Op)
 unfolding fieldsFrom opOk
 opsFrom T = fieldsFrom 4 18 (opOk T) opAt

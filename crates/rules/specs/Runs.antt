@@ -65,7 +65,8 @@ pub record RightAt (T : Table) (s : ℕ → ℕ) : Type 0 where
 abbrev pub spaced : ℕ → ℕ → ℕ
 spaced q k = k * q
 
--- "A period q .. is right when, in every run, with each operation at t + k·q" both hold
+-- "A period q .. is right when, in every run, with each operation at t + k·q" both hold. This is said of every number q: "from 1 to p" stands
+-- in IsPeriod and, for the question, in Answers.periodAsked.
 abbrev pub Right : Table → ℕ → Type 0
 Right T q = RightAt T (spaced q)
 
@@ -74,4 +75,4 @@ pub record IsPeriod (T : Table) (q : ℕ) : Type 0 where
   pub low : 1 ≤ q
   pub high : q ≤ T .len
   pub right : Right T q
-  pub least : (p : ℕ) → 1 ≤ p → p < q → Right T p → ⊥
+  pub least : (shorter : ℕ) → 1 ≤ shorter → shorter < q → Right T shorter → ⊥

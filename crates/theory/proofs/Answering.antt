@@ -8,21 +8,22 @@ use native.Mathlib.Omega.{arith}
 use native.Mathlib.Decide.{decLt}
 use lib.Dec.{leb}
 use lib.IntN.{ℤ}
-use lib.ListN.{length, take, drop}
+use lib.ListN.{length, take, drop, length-append, length-drop}
 use lib.Seq.{take-append-seam}
 use borrow.Author.Tests.{lt-ltb, le-ltb, not-false}
 use Rattle.rules.specs.Table.{Table, Accepted}
 use Rattle.rules.specs.Rows.{Reply, replyOf}
 use Rattle.rules.specs.Verdicts.{Verdict, accepted, refused, ASK, ROOM, _then_, onwards}
-use Rattle.rules.specs.Bytes.{replyBytes}
+use Rattle.rules.specs.Bytes.{replyBytes, farthest}
 use Rattle.rules.specs.Judge.{judge, Numbers}
 use Rattle.rules.specs.Answers.{Written, put, written, Answers, Planned, ReplyTo, bytesOf, IsPlan, IsUnfold, IsWrite, asked, periodAsked, IsMargin, RightSaid, IsRight}
-use Rattle.theory.specs.Tests.{rightb, periodOf, planOf}
+use Rattle.theory.specs.Tests.{rightb, periodOf, planOf, askedTable, saidOf}
 use Rattle.theory.proofs.Says.{says-leb, says-and}
-use Rattle.theory.proofs.Verdicts.{never-refused, passed, then-first, then-rest, onwards-first}
+use Rattle.theory.proofs.Verdicts.{never-refused, passed, then-first, then-rest, onwards-accepts, onwards-first}
 use Rattle.theory.proofs.Period.{period-unique}
 use Rattle.theory.proofs.Exists.{says-right, period-found}
 use Rattle.theory.proofs.Judging.{judge-accepted}
+use Rattle.theory.proofs.Lengths.{no-farther}
 
 -- ---- answers that are facts about what was accepted
 
@@ -61,6 +62,13 @@ plan-unique s out w x (v, r, e) (u, q, f) = e ∙ ap (λ (y : Verdict Reply). wr
 pub plan-exists : (s out : List ℕ) → (w : Written) × IsPlan s out w
 plan-exists s out = (written (bytesOf replyBytes (planOf s)) out, (planOf s, reply-found s, refl))
 
+-- what is written for a table that is accepted: its reply, folded at its period
+pub plan-put : (s out : List ℕ) (w : Written) (T : Table) → judge s ≡ accepted T → IsPlan s out w → w ≡ put (replyBytes (replyOf T (periodOf T))) out
+unfolding planOf written bytesOf onwards
+plan-put s out w T read (v, r, e) =
+    let same = reply-unique s v (planOf s) r (reply-found s) ∙ onwards-accepts (λ U. accepted (replyOf U (periodOf U))) read in
+    e ∙ ap (λ (u : Verdict Reply). written (bytesOf replyBytes u) out) same
+
 -- ---- unfold, write, margin: computed from the input, so one answer and always one
 pub unfold-unique : (s out : List ℕ) (w x : Written) → IsUnfold s out w → IsUnfold s out x → w ≡ x
 unfold-unique s out w x e f = e ∙ sym f
@@ -88,11 +96,10 @@ said-unique q T false true a b = a .1 (b .0 refl)
 said-unique q T false false a b = refl
 
 pub right-unique : (s : List ℕ) (q : ℕ) (v w : Verdict Bool) → IsRight s q v → IsRight s q w → v ≡ w
-right-unique s q = answers-unique (RightSaid q) (said-unique q) (onwards (judge s) (λ T. periodAsked T q 0 then accepted T))
+right-unique s q = answers-unique (RightSaid q) (said-unique q) (askedTable s q)
 
 -- a table that may be asked about q: accepted, and q from 1 to its length
-question : (s : List ℕ) (q : ℕ) (T : Table) → onwards (judge s) (λ T. periodAsked T q 0 then accepted T) ≡ accepted T
-    → Accepted T × (1 ≤ q) × (q ≤ T .len)
+question : (s : List ℕ) (q : ℕ) (T : Table) → askedTable s q ≡ accepted T → Accepted T × (1 ≤ q) × (q ≤ T .len)
 unfolding asked
 question s q T e =
     let (U, x, y) = onwards-first (judge s) (λ T. periodAsked T q 0 then accepted T) e in
@@ -103,12 +110,14 @@ question s q T e =
     in
     (rw same at (judge-accepted s U x), low, rw same at high)
 
+-- the computed answer is the answer
+pub right-found : (s : List ℕ) (q : ℕ) → IsRight s q (saidOf s q)
+unfolding saidOf
+right-found s q =
+    answers-exist (RightSaid q) (λ T. rightb T q) (askedTable s q) (λ T e. let (ok, low, high) = question s q T e in says-right T ok q low)
+
 pub right-exists : (s : List ℕ) (q : ℕ) → (v : Verdict Bool) × IsRight s q v
-right-exists s q = (
-  _,
-  answers-exist (RightSaid q) (λ T. rightb T q) (onwards (judge s) (λ T. periodAsked T q 0 then accepted T))
-      (λ T e. let (ok, low, high) = question s q T e in says-right T ok q low),
-)
+right-exists s q = (saidOf s q, right-found s q)
 
 -- ---- lent bytes
 
@@ -124,6 +133,16 @@ pub put-short : (bytes out : List ℕ) → length out < length bytes
 unfolding put
 put-short bytes out h = rw (lt-ltb (length out) (length bytes) h)
 
+-- two byte strings for which there is room are told apart by what is left in the buffer
+pub put-same : (x y out : List ℕ) → length x ≤ length out → length y ≤ length out → put x out ≡ put y out → x ≡ y
+put-same x y out h g e =
+    let same = sym (put-room x out h) ∙ e ∙ put-room y out g in
+    let len : length x ≡ length y = cc (ap (λ (w : Written). w .answer) same) in
+    sym (take-append-seam x (drop (length x) out))
+    ∙ ap (λ (w : Written). take (length x) (w .buffer)) same
+    ∙ ap (λ (n : ℕ). take n (y ++ drop (length y) out)) len
+    ∙ take-append-seam y (drop (length y) out)
+
 put-refused : (bytes out : List ℕ) (n a b : ℕ) → put bytes out .answer ≡ refused n a b → put bytes out .buffer ≡ out
 put-refused bytes out n a b e = go (decLt (length out) (length bytes))
   where
@@ -137,12 +156,44 @@ unfolding written
 refusal-keeps (accepted bytes) out n a b e = put-refused bytes out n a b e
 refusal-keeps (refused m c d) out n a b e = refl
 
--- two byte strings for which there is room are told apart by what is left in the buffer
-pub put-same : (x y out : List ℕ) → length x ≤ length out → length y ≤ length out → put x out ≡ put y out → x ≡ y
-put-same x y out h g e =
-    let same = sym (put-room x out h) ∙ e ∙ put-room y out g in
-    let len : length x ≡ length y = cc (ap (λ (w : Written). w .answer) same) in
-    sym (take-append-seam x (drop (length x) out))
-    ∙ ap (λ (w : Written). take (length x) (w .buffer)) same
-    ∙ ap (λ (n : ℕ). take n (y ++ drop (length y) out)) len
-    ∙ take-append-seam y (drop (length y) out)
+-- whatever was to be written, no byte is added to the buffer and none taken away
+pub written-length : (v : Verdict (List ℕ)) (out : List ℕ) → length (written v out .buffer) ≡ length out
+unfolding written
+written-length (accepted bytes) out = go (decLt (length out) (length bytes))
+  where
+    go : Dec (length out < length bytes) → length (put bytes out .buffer) ≡ length out
+    go (yes h) = ap (λ (w : Written). length (w .buffer)) (put-short bytes out h)
+    go (no h) =
+        ap (λ (w : Written). length (w .buffer)) (put-room bytes out (omega arith))
+        ∙ omega (arith, length-append bytes (drop (length bytes) out), length-drop (length bytes) out)
+written-length (refused n a b) out = refl
+
+-- ---- both, of each function that writes
+pub plan-keeps : (s out : List ℕ) (w : Written) (n a b : ℕ) → IsPlan s out w → w .answer ≡ refused n a b → w .buffer ≡ out
+plan-keeps s out w n a b (v, r, e) no-plan = rw e (refusal-keeps _ out n a b (rw e at no-plan))
+
+pub unfold-keeps : (s out : List ℕ) (w : Written) (n a b : ℕ) → IsUnfold s out w → w .answer ≡ refused n a b → w .buffer ≡ out
+unfold-keeps s out w n a b e no-starts = rw e (refusal-keeps _ out n a b (rw e at no-starts))
+
+pub write-keeps : (N : Numbers) (out : List ℕ) (w : Written) (n a b : ℕ) → IsWrite N out w → w .answer ≡ refused n a b → w .buffer ≡ out
+write-keeps N out w n a b e no-table = rw e (refusal-keeps _ out n a b (rw e at no-table))
+
+pub plan-length : (s out : List ℕ) (w : Written) → IsPlan s out w → length (w .buffer) ≡ length out
+plan-length s out w (v, r, e) = rw e (written-length _ out)
+
+pub unfold-length : (s out : List ℕ) (w : Written) → IsUnfold s out w → length (w .buffer) ≡ length out
+unfold-length s out w e = rw e (written-length _ out)
+
+pub write-length : (N : Numbers) (out : List ℕ) (w : Written) → IsWrite N out w → length (w .buffer) ≡ length out
+write-length N out w e = rw e (written-length _ out)
+
+-- ---- "no answer depends on bytes past 821": two inputs that differ only there have one answer
+module _ (s t : List ℕ) (near : take farthest s ≡ take farthest t) where
+  pub plan-near : (out : List ℕ) (w : Written) → IsPlan s out w → IsPlan t out w
+  plan-near out w (v, r, e) = (v, rw (no-farther s t near) at r, e)
+
+  pub margin-near : (i j n q : ℕ) (v : Verdict ℤ) → IsMargin s i j n q v → IsMargin t i j n q v
+  margin-near i j n q v e = rw (no-farther s t near) at e
+
+  pub right-near : (q : ℕ) (v : Verdict Bool) → IsRight s q v → IsRight t q v
+  right-near q v x = rw (no-farther s t near) at x

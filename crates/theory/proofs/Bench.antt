@@ -1,36 +1,41 @@
 -- The starred bench tables: one list, one claim, one computation.
 -- Assumes nothing.
 use mathlib.Core.Path.{_≡_, refl, subst}
+use mathlib.Core.Bool.{Bool}
 use mathlib.Core.List.{List, [], _∷_, map}
 use lib.IntN.{ℤ}
 use Rattle.rules.specs.Rows.{Reply, margin}
 use Rattle.rules.specs.Verdicts.{Verdict, accepted, _then_, onwards}
 use Rattle.rules.specs.Judge.{judge}
-use Rattle.rules.specs.Answers.{ReplyTo, marginTest}
-use Rattle.rules.specs.Bench.{Case, replies, margins, Holds, All, bench}
-use Rattle.theory.specs.Tests.{planOf}
-use Rattle.theory.proofs.Answering.{reply-found}
+use Rattle.rules.specs.Answers.{ReplyTo, IsRight, marginTest}
+use Rattle.rules.specs.Bench.{Case, replies, margins, rights, Holds, All, bench}
+use Rattle.theory.specs.Tests.{planOf, saidOf}
+use Rattle.theory.proofs.Answering.{reply-found, right-found}
 
--- an answer of either kind
+-- an answer of each kind
 data Said : Type 0 where
   replied : Verdict Reply → Said
   measured : Verdict ℤ → Said
+  decided : Verdict Bool → Said
 
 -- what is computed for a case, and what stands beside it
 computed : Case → Said
-unfolding planOf onwards judge marginTest _then_ margin
+unfolding planOf onwards judge marginTest _then_ margin saidOf
 computed (replies s v) = replied (planOf s)
 computed (margins s i j n q v) = measured (onwards (judge s) (λ T. marginTest T i j n q then accepted (margin T i j n q)))
+computed (rights s q v) = decided (saidOf s q)
 
 expected : Case → Said
 expected (replies s v) = replied v
 expected (margins s i j n q v) = measured v
+expected (rights s q v) = decided v
 
 -- a case whose answer is computed holds
 computed-holds : (c : Case) → computed c ≡ expected c → Holds c
 unfolding computed expected Holds
 computed-holds (replies s v) e = let same : planOf s ≡ v = cc in subst (λ (x : Verdict Reply). ReplyTo s x) same (reply-found s)
 computed-holds (margins s i j n q v) e = cc
+computed-holds (rights s q v) e = let same : saidOf s q ≡ v = cc in subst (λ (x : Verdict Bool). IsRight s q x) same (right-found s q)
 
 all-computed : (cs : List Case) → map computed cs ≡ map expected cs → All Holds cs
 unfolding All
@@ -44,6 +49,6 @@ computes : map computed bench ≡ map expected bench
 unfolding computed expected bench
 computes = refl
 
--- K1 to K10 and K1's two margins, each with its whole answer
+-- K1 to K10, K1's two margins and that 3 is not right for K4, each with its whole answer
 pub bench-holds : All Holds bench
 bench-holds = all-computed bench computes

@@ -1,6 +1,6 @@
--- T3: a period is right for the boards, in runs of every length, exactly when no two operations overlap at a distance n with n * q below the length.
+-- A period is right for the boards, in runs of every length, exactly when no two operations overlap at a distance n with n * q below the length.
 -- Assumes nothing.
-use Prim.Native.Nat.{ℕ, suc, _+_, _*_, _<_, _≤_}
+use Prim.Native.Nat.{ℕ, suc, _+_, _*_, _<_}
 use mathlib.Core.Path.{_≡_, sym, ap, subst}
 use mathlib.Core.List.{List}
 use mathlib.Core.Logic.{_↔_}
@@ -14,7 +14,6 @@ use Rattle.theory.specs.Near.{BoardsNear}
 use Rattle.theory.proofs.Order.{Cmp, cmp, distance}
 use Rattle.theory.proofs.Walks.{realise, run-reach, run-walk}
 use Rattle.theory.proofs.Period.{apart}
-use Rattle.theory.proofs.Sets.{some-in}
 
 module _ (T : Table) (ok : Accepted T) (q : ℕ) where
   -- instances of two cycles, the second later than the first

@@ -30,7 +30,7 @@ pub record Least (P : ℕ → Type 0) (top q : ℕ) : Type 0 where
   pub low : 1 ≤ q
   pub high : q ≤ top
   pub holds : P q
-  pub none : (p : ℕ) → 1 ≤ p → p < q → P p → ⊥
+  pub none : (shorter : ℕ) → 1 ≤ shorter → shorter < q → P shorter → ⊥
 
 module _ (P : ℕ → Type 0) (f : ℕ → Bool) (says : (q : ℕ) → 1 ≤ q → Says (f q) (P q)) where
   -- one number more is passed

@@ -17,5 +17,7 @@ pub mod Bytes
 pub mod Numbers
 pub mod Replies
 pub mod Answering
+pub mod RoundTrip
+pub mod Margins
 pub mod Bench
 pub mod ShutOut

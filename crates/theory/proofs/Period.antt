@@ -10,7 +10,7 @@ use Rattle.rules.specs.Table.{Op, Table, nops, op, heldTo, Clash, Race, Contest
 use Rattle.rules.specs.Runs.{mode, Runs, BoardsRightAt, ValuesRightAt, Right, spaced, IsPeriod}
 use Rattle.theory.proofs.Order.{Cmp, less, same, more, cmp, later}
 
--- T0: a table has one period
+-- a table has one period
 pub period-unique : (T : Table) (p q : ℕ) → IsPeriod T p → IsPeriod T q → p ≡ q
 period-unique T p q x y = go (cmp p q)
   where
@@ -64,7 +64,7 @@ module _ (T : Table) (ok : Accepted T) where
   apart r i j k x y ne b l =
       never-clash i j (x .isOp) (y .isOp) ne (record { mode = (mode r k, x .inMode, y .inMode); board = b; lap = l })
 
-  -- T1: the length is right
+  -- the length is right
   plain-boards : BoardsRightAt T (spaced (T .len))
   unfolding BoardsRightAt
   plain-boards r run i k j l x y ne b lap = go (cmp k l)

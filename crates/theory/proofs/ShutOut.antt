@@ -1,34 +1,33 @@
 -- What the promise shuts out: document 01's wrong planners, and the errors that a good planner still makes, each with its witness table.
 -- Assumes nothing.
-use Prim.Native.Nat.{ℕ, zero, suc, _+_, _*_, _/_, _^_, _<_, _≤_}
+use Prim.Native.Nat.{ℕ, zero, suc, _+_, _-_, _*_, _/_, _^_, _<_, _≤_}
 use mathlib.Core.Path.{_≡_, refl, sym, ap, subst, _∙_}
 use mathlib.Core.Bool.{true, false, false≢true}
-use mathlib.Core.List.{List, [], _∷_}
+use mathlib.Core.List.{List, [], _∷_, _++_}
 use native.Mathlib.Nat.{pow-suc}
 use native.Mathlib.Omega.{arith}
-use lib.ListN.{length, getD, replicate}
+use lib.ListN.{length, getD, drop, replicate}
 use Rattle.rules.specs.Sets.{has, In, Share, Overlap}
 use Rattle.rules.specs.Table.{Table, nops, op, endOf, followers, Accepted}
 use Rattle.rules.specs.Runs.{mode, IsRun, Runs, plainStart, plainEnd, ValuesRightAt, Right, spaced, IsPeriod}
-use Rattle.rules.specs.Rows.{Reply, replyOf}
-use Rattle.rules.specs.Verdicts.{Verdict, accepted, onwards}
-use Rattle.rules.specs.Bytes.{tableBytes, replyBytes}
+use Rattle.rules.specs.Rows.{replyOf}
+use Rattle.rules.specs.Verdicts.{accepted, refused}
+use Rattle.rules.specs.Bytes.{num16, tableBytes, replyBytes}
 use Rattle.rules.specs.Judge.{judge}
-use Rattle.rules.specs.Answers.{Written, put, written, Answers, Planned, bytesOf}
+use Rattle.rules.specs.Answers.{Written, IsPlan}
 use Rattle.rules.specs.Bench.{k1, k2, k4, k5, k7, k8, k9}
 use Rattle.theory.specs.Walks.{Reach, begin, turn, Walk, last, more, Any}
 use Rattle.theory.specs.Near.{BoardPair, Quiet, ValuePair}
 use Rattle.theory.specs.Tests.{rightb, periodOf, reachSet, valuesFine}
-use Rattle.theory.specs.Planners.{Planner, Meets, RefusesAll, DoesNothing, Gives, invented, RightInRuns, IsPairPeriod, LateSource, LateValuesRight}
+use Rattle.theory.specs.Planners.{RightInRuns, IsPairPeriod, NoneNext, LateSource, LateRight}
 use Rattle.theory.proofs.Order.{Cmp, cmp}
 use Rattle.theory.proofs.Sets.{in-none, in-zero, in-suc}
 use Rattle.theory.proofs.Modes.{walk-pos}
 use Rattle.theory.proofs.Tests.{says-values-right}
 use Rattle.theory.proofs.Verdicts.{never-refused}
-use Rattle.theory.proofs.Period.{period-unique}
 use Rattle.theory.proofs.Exists.{in-reach, says-right, period-found}
 use Rattle.theory.proofs.Judging.{judge-accepted}
-use Rattle.theory.proofs.Answering.{put-same}
+use Rattle.theory.proofs.Answering.{put-room, plan-put}
 
 -- ---- the witnesses: that they are accepted, by computing
 
@@ -73,70 +72,58 @@ module _ (T : Table) (read : Read T) where
   is-wrong : (q : ℕ) → 1 ≤ q → rightb T q ≡ false → Right T q → ⊥
   is-wrong q low e x = false≢true (sym e ∙ says-right T ok q low .1 x)
 
-  -- what a planner that meets the promise does with the table
-  meets-plan : (f : Planner) → Meets f → (out : List ℕ) → f (tableBytes T) out ≡ put (replyBytes (replyOf T (periodOf T))) out
-  unfolding Answers bytesOf written onwards
-  meets-plan f m out =
-      let (v, r, e) = m (tableBytes T) out in
-      let (R, (q, x, y), z) = subst (λ (u : Verdict Table). Answers Planned u v) read r in
-      e
-      ∙ ap (λ (u : Verdict Reply). written (bytesOf replyBytes u) out)
-      (z ∙ ap accepted (y ∙ ap (replyOf T) (period-unique T q (periodOf T) x (period-found T ok))))
+  -- what the promise of plan makes of the table's bytes where there is room, whatever code meets it
+  planned : (out : List ℕ) (w : Written) → length (replyBytes (replyOf T (periodOf T))) ≤ length out → IsPlan (tableBytes T) out w
+      → w ≡ record {
+        answer = accepted (length (replyBytes (replyOf T (periodOf T))));
+        buffer = replyBytes (replyOf T (periodOf T)) ++ drop (length (replyBytes (replyOf T (periodOf T)))) out;
+      }
+  planned out w h p = plan-put (tableBytes T) out w T read p ∙ put-room (replyBytes (replyOf T (periodOf T))) out h
 
-  -- so a planner that gives some reply to every accepted table gives this one, byte for byte
-  gives-reply : (f : Planner) → Meets f → (R : Table → Reply) → Gives f R → (out : List ℕ) → length (replyBytes (R T)) ≤ length out
-      → length (replyBytes (replyOf T (periodOf T))) ≤ length out
-      → replyBytes (R T) ≡ replyBytes (replyOf T (periodOf T))
-  gives-reply f m R g out h l =
-      put-same (replyBytes (R T)) (replyBytes (replyOf T (periodOf T))) out h l
-      (sym (g (tableBytes T) out T read) ∙ meets-plan f m out)
-
--- ---- "one that refuses everything" (K1)
-pub not-refuse-all : (f : Planner) → Meets f → RefusesAll f → ⊥
-unfolding put replyBytes replyOf periodOf
-not-refuse-all f m g =
-    let (n, a, b, e) = g (tableBytes k1) (replicate 12 0) in
-    never-refused (sym e ∙ ap (λ (w : Written). w .answer) (meets-plan k1 k1-read f m (replicate 12 0)))
-
--- ---- "one that does nothing" (K1)
-pub not-do-nothing : (f : Planner) → Meets f → DoesNothing f → ⊥
-unfolding put replyBytes replyOf periodOf
-not-do-nothing f m g =
-    let e = sym (g (tableBytes k1) (replicate 12 0)) ∙ ap (λ (w : Written). w .buffer) (meets-plan k1 k1-read f m (replicate 12 0)) in
-    omega (arith, ap (λ (b : List ℕ). getD b 0 0) e)
-
--- ---- "one that always says p" (K1: 3, and p is 5)
-pub not-always-length : (f : Planner) → Meets f → Gives f (λ T. replyOf T (T .len)) → ⊥
+-- ---- "one that refuses everything": K1 with room is not refused
+pub not-refuse-all : (out : List ℕ) (w : Written) → 12 ≤ length out → IsPlan (tableBytes k1) out w → (n a b : ℕ) → w .answer ≡ refused n a b → ⊥
 unfolding replyBytes replyOf periodOf
-not-always-length f m g =
-    let e = gives-reply k1 k1-read f m (λ T. replyOf T (T .len)) g (replicate 12 0) (omega arith) (omega arith) in
-    omega (arith, ap (λ (b : List ℕ). getD b 4 0) e)
+not-refuse-all out w h p n a b e = never-refused (sym e ∙ ap (λ (x : Written). x .answer) (planned k1 k1-read out w h p))
 
--- ---- "or always 1" (K1)
-pub not-always-one : (f : Planner) → Meets f → Gives f (λ T. replyOf T 1) → ⊥
+-- ---- "one that does nothing": K1 changes a buffer of 12 zero bytes
+pub not-do-nothing : (w : Written) → IsPlan (tableBytes k1) (replicate 12 0) w → w .buffer ≡ replicate 12 0 → ⊥
 unfolding replyBytes replyOf periodOf
-not-always-one f m g =
-    let e = gives-reply k1 k1-read f m (λ T. replyOf T 1) g (replicate 12 0) (omega arith) (omega arith) in
-    omega (arith, ap (λ (b : List ℕ). getD b 4 0) e)
+not-do-nothing w p e =
+    omega (arith, ap (λ (b : List ℕ). getD b 0 0) (sym e ∙ ap (λ (x : Written). x .buffer) (planned k1 k1-read (replicate 12 0) w (omega arith) p)))
 
--- ---- "one with invented start indices" (K2)
-pub not-invented : (f : Planner) → Meets f → Gives f (λ T. invented T (periodOf T)) → ⊥
-unfolding replyBytes replyOf invented periodOf
-not-invented f m g =
-    let e = gives-reply k2 k2-read f m (λ T. invented T (periodOf T)) g (replicate 26 0) (omega arith) (omega arith) in
-    omega (arith, ap (λ (b : List ℕ). getD b 18 0) e)
+-- ---- "one that always says p, or always 1": the period that is written for K1 is 3, its length is 5
+pub k1-period : (out : List ℕ) (w : Written) → 12 ≤ length out → IsPlan (tableBytes k1) out w → num16 (w .buffer) 3 ≡ 3
+unfolding replyBytes replyOf periodOf
+k1-period out w h p = ap (λ (x : Written). num16 (x .buffer) 3) (planned k1 k1-read out w h p)
+
+pub not-always-length : (out : List ℕ) (w : Written) → 12 ≤ length out → IsPlan (tableBytes k1) out w → num16 (w .buffer) 3 ≡ k1 .len → ⊥
+not-always-length out w h p e = omega (arith, k1-period out w h p)
+
+pub not-always-one : (out : List ℕ) (w : Written) → 12 ≤ length out → IsPlan (tableBytes k1) out w → num16 (w .buffer) 3 ≡ 1 → ⊥
+not-always-one out w h p e = omega (arith, k1-period out w h p)
+
+-- ---- "one with invented start indices": those that are written for K2 are the quotients of its starts 0, 2, 4 by its period 2
+pub not-invented : (out : List ℕ) (w : Written) → 26 ≤ length out → IsPlan (tableBytes k2) out w
+    → (num16 (w .buffer) 10 ≡ 0) × (num16 (w .buffer) 17 ≡ 1) × (num16 (w .buffer) 24 ≡ 2)
+unfolding replyBytes replyOf periodOf
+not-invented out w h p =
+    let e = planned k2 k2-read out w h p in (
+      ap (λ (x : Written). num16 (x .buffer) 10) e,
+      ap (λ (x : Written). num16 (x .buffer) 17) e,
+      ap (λ (x : Written). num16 (x .buffer) 24) e,
+    )
 
 -- ---- halving: rightness is not monotone (K4)
 pub not-monotone : Right k4 2 × (Right k4 3 → ⊥)
 unfolding rightb
 not-monotone = (is-right k4 k4-read 2 (omega arith) refl, is-wrong k4 k4-read 3 (omega arith) refl)
 
--- ---- the data bound without the boards: values are right at 1 (K1)
-pub bound-not-enough : ValuesRightAt k1 (spaced 1) × (Right k1 1 → ⊥)
-unfolding rightb valuesFine reachSet
+-- ---- the data bound without the boards: K2's values are right at 1, and its period is 2
+pub bound-not-enough : ValuesRightAt k2 (spaced 1) × IsPeriod k2 2
+unfolding periodOf rightb valuesFine reachSet
 bound-not-enough = (
-  says-values-right k1 (reachSet k1) (in-reach k1 (ok k1 k1-read)) 1 (omega arith) (ok k1 k1-read) .0 refl,
-  is-wrong k1 k1-read 1 (omega arith) refl,
+  says-values-right k2 (reachSet k2) (in-reach k2 (ok k2 k2-read)) 1 (omega arith) (ok k2 k2-read) .0 refl,
+  period-found k2 (ok k2 k2-read),
 )
 
 -- ---- sets with one member
@@ -175,18 +162,18 @@ k5-apart r run i k j l x y b e =
     k5-turn (mode r k) (mode r (suc k)) (run .goes k (y′ .cycle))
     (k5-mode r k i x ∙ k5-same i j (x .isOp) (y .isOp) b ∙ sym (k5-mode r (suc k) j y′))
 
+k5-no-reads : (j : ℕ) → op k5 j .reads ≡ 0
+k5-no-reads zero = refl
+k5-no-reads (suc zero) = refl
+k5-no-reads (suc (suc j)) = refl
+
 k5-pairs : RightInRuns 2 k5 1
 k5-pairs =
     record {
       boards = λ r run short i k j l x y ne b lap. go r run short i k j l x y ne b (cmp k l);
-      values = λ r run short c i k j l y v s. absurd (in-none c (rw (no-reads j) at v));
+      values = λ r run short c i k j l y v s. absurd (in-none c (rw (k5-no-reads j) at v));
     }
   where
-    no-reads : (j : ℕ) → op k5 j .reads ≡ 0
-    no-reads zero = refl
-    no-reads (suc zero) = refl
-    no-reads (suc (suc j)) = refl
-
     go : (r : List ℕ) → IsRun k5 r → length r ≤ 2 → (i k j l : ℕ) → Runs k5 r k i → Runs k5 r l j → ((i ≡ j) × (k ≡ l) → ⊥)
         → Share (op k5 i .boards) (op k5 j .boards) → Cmp k l → ⊥
     go r run short i k j l x y ne b (Cmp.less h) = k5-apart r run i k j l x y b (omega (arith, y .cycle))
@@ -194,37 +181,43 @@ k5-pairs =
     go r run short i k j l x y ne b (Cmp.more h) =
         k5-apart r run j l i k y x (b .0, b .2, b .1) (omega (arith, x .cycle))
 
-pub not-first-pair : (f : Planner) → Meets f → (g : Table → ℕ) → ((T : Table) → Accepted T → IsPairPeriod T (g T))
-    → Gives f (λ T. replyOf T (g T)) → ⊥
-unfolding replyBytes replyOf periodOf
-not-first-pair f m g pairs gives =
-    let one : g k5 ≡ 1 = is-one (pairs k5 (ok k5 k5-read)) (cmp 1 (g k5)) in
-    let e = gives-reply k5 k5-read f m (λ T. replyOf T (g T)) gives (replicate 19 0) (omega arith) (omega arith) in
-    omega (arith, one, ap (λ (b : List ℕ). getD b 4 0) e)
-  where
-    is-one : IsPairPeriod k5 (g k5) → Cmp 1 (g k5) → g k5 ≡ 1
-    is-one x (Cmp.less h) = absurd (x .least 1 (omega arith) h k5-pairs)
-    is-one x (Cmp.same h) = sym h
-    is-one x (Cmp.more h) = omega (arith, x .low)
+-- so in the first pair of cycles the smallest is 1 ..
+pub pair-period : IsPairPeriod k5 1
+pair-period = record { low = omega arith; high = omega arith; right = k5-pairs; least = λ q low h. absurd (omega arith) }
 
--- ---- cycles one apart only: no two operations one turn apart share a board (K5), and none passes a value (K7)
+-- .. and 1 is not written
+pub not-first-pair : (out : List ℕ) (w : Written) → 19 ≤ length out → IsPlan (tableBytes k5) out w → num16 (w .buffer) 3 ≡ 1 → ⊥
+unfolding replyBytes replyOf periodOf
+not-first-pair out w h p e = omega (arith, ap (λ (x : Written). num16 (x .buffer) 3) (planned k5 k5-read out w h p))
+
+-- ---- cycles one apart only: one turn on, nothing shares a board and nothing is read in K5 and K7; yet K5 is wrong at 1 and K7 at 2
 
 one-turn : {T : Table} {P : ℕ → Type 0} {n a b : ℕ} → Walk T P n a b → n ≡ 1 → In b (followers T a)
 one-turn (last f) e = f
 one-turn (more f p w) e = absurd (omega (arith, walk-pos w))
 
-pub distance-two-boards : ((i j a b : ℕ) → BoardPair k5 1 i j a b → ⊥) × (Right k5 1 → ⊥)
-unfolding rightb
-distance-two-boards = (pairs, is-wrong k5 k5-read 1 (omega arith) refl)
-  where
-    pairs : (i j a b : ℕ) → BoardPair k5 1 i j a b → ⊥
-    pairs i j a b p =
-        k5-turn a b (one-turn (p .walk) refl)
-        (single a i (rw (k5-own i (p .first) .1) at (p .runs))
-        ∙ k5-same i j (p .first) (p .second) (p .board)
-        ∙ sym (single b j (rw (k5-own j (p .second) .1) at (p .ends))))
+-- where each operation has boards and one mode of its own, and no mode follows itself
+module _ (T : Table) (m : ℕ → ℕ) (own : (i : ℕ) → i < nops T → op T i .modes ≡ 2 ^ m i)
+    (alone : (i j : ℕ) → i < nops T → j < nops T → Share (op T i .boards) (op T j .boards) → i ≡ j)
+    (moves : (a b : ℕ) → In b (followers T a) → a ≡ b → ⊥) where
+  no-boards-next : (i j a b : ℕ) → BoardPair T 1 i j a b → ⊥
+  no-boards-next i j a b p =
+      moves a b (one-turn (p .walk) refl)
+      (single a (m i) (rw (own i (p .first)) at (p .runs))
+      ∙ ap m (alone i j (p .first) (p .second) (p .board))
+      ∙ sym (single b (m j) (rw (own j (p .second)) at (p .ends))))
 
--- in K7 the first operation alone writes, and the second alone reads
+pub distance-two-boards : NoneNext k5 × (Right k5 1 → ⊥)
+unfolding rightb
+distance-two-boards = (
+  record {
+    boards = no-boards-next k5 (λ i. i) (λ i h. k5-own i h .1) k5-same k5-turn;
+    values = λ c i j a b p. in-none c (rw (k5-no-reads j) at (p .reads));
+  },
+  is-wrong k5 k5-read 1 (omega arith) refl,
+)
+
+-- in K7 the first operation alone writes, and the second alone reads; the one has board 1, the other board 0; no mode follows itself
 k7-writes : (i c : ℕ) → In c (op k7 i .writes) → op k7 i .modes ≡ 2 ^ 0
 k7-writes zero c h = refl
 k7-writes (suc zero) c h = absurd (in-none c h)
@@ -235,12 +228,30 @@ k7-reads zero c h = absurd (in-none c h)
 k7-reads (suc zero) c h = refl
 k7-reads (suc (suc j)) c h = absurd (in-none c h)
 
-pub distance-two-values : ((c i j a b : ℕ) → ValuePair k7 1 c i j a b → ⊥) × (Right k7 2 → ⊥)
+k7-own : (i : ℕ) → i < 2 → (op k7 i .boards ≡ 2 ^ (1 - i)) × (op k7 i .modes ≡ 2 ^ (i + i))
+k7-own zero h = (refl, refl)
+k7-own (suc zero) h = (refl, refl)
+k7-own (suc (suc i)) h = absurd (omega arith)
+
+k7-same : (i j : ℕ) → i < 2 → j < 2 → Share (op k7 i .boards) (op k7 j .boards) → i ≡ j
+k7-same i j hi hj (m, x, y) =
+    omega (arith, single m (1 - i) (rw (k7-own i hi .0) at x), single m (1 - j) (rw (k7-own j hj .0) at y))
+
+k7-turn : (a b : ℕ) → In b (followers k7 a) → a ≡ b → ⊥
+k7-turn zero b h e = omega (arith, single b 1 h)
+k7-turn (suc zero) b h e = omega (arith, single b 2 h)
+k7-turn (suc (suc zero)) b h e = omega (arith, single b 0 h)
+k7-turn (suc (suc (suc a))) b h e = in-none b h
+
+pub distance-two-values : NoneNext k7 × (Right k7 2 → ⊥)
 unfolding rightb
-distance-two-values = (pairs, is-wrong k7 k7-read 2 (omega arith) refl)
+distance-two-values = (
+  record { boards = no-boards-next k7 (λ i. i + i) (λ i h. k7-own i h .1) k7-same k7-turn; values = values },
+  is-wrong k7 k7-read 2 (omega arith) refl,
+)
   where
-    pairs : (c i j a b : ℕ) → ValuePair k7 1 c i j a b → ⊥
-    pairs c i j a b p =
+    values : (c i j a b : ℕ) → ValuePair k7 1 c i j a b → ⊥
+    values c i j a b p =
         let from : a ≡ 0 = single a 0 (rw (k7-writes i c (p .writer .writes)) at (p .writer .runs)) in
         let next : In b (2 ^ 1) = rw from at (one-turn (p .walk) refl) in
         omega (arith, single b 1 next, single b 2 (rw (k7-reads j c (p .reads)) at (p .runs)))
@@ -285,7 +296,7 @@ k8-reads (suc zero) c h = refl
 k8-reads (suc (suc zero)) c h = absurd (in-none c h)
 k8-reads (suc (suc (suc j))) c h = absurd (in-none c h)
 
--- ---- order at one date: with starts before ends K8 would not be right at 3, and would be at 4
+-- ---- order at one date: with starts before ends K8 would be right at 4 and at no shorter period; it is right at 3
 run8 : IsRun k8 (0 ∷ 0 ∷ [])
 unfolding has
 run8 = record { some = omega arith; begins = refl; goes = go }
@@ -311,12 +322,17 @@ late-source =
     go (suc (suc zero)) m x w h = omega arith
     go (suc (suc (suc u))) m x w h = absurd (in-none 0 w)
 
-pub starts-first : IsPeriod k8 3 × (LateValuesRight k8 3 → ⊥) × LateValuesRight k8 4
-unfolding LateValuesRight periodOf has
+pub starts-first : IsPeriod k8 3 × LateRight k8 4 × ((shorter : ℕ) → shorter < 4 → LateRight k8 shorter → ⊥)
+unfolding periodOf rightb has
 starts-first = (
   period-found k8 (ok k8 k8-read),
-  λ right. let h = right (0 ∷ 0 ∷ []) run8 0 2 0 1 1 (record { cycle = omega arith; isOp = omega arith; inMode = refl }) refl late-source in omega arith,
-  λ r run c i k j l y v s. at-four c i k j l v (s .writes) (s .before),
+  record {
+    boards = is-right k8 k8-read 4 (omega arith) refl .boards;
+    values = λ r run c i k j l y v s. at-four c i k j l v (s .writes) (s .before);
+  },
+  λ q less right.
+      let h = right .values (0 ∷ 0 ∷ []) run8 0 2 0 1 1 (record { cycle = omega arith; isOp = omega arith; inMode = refl }) refl late-source in
+      omega arith,
 )
   where
     at-four : (c i k j l : ℕ) → In c (op k8 j .reads) → In c (op k8 i .writes) → plainEnd k8 i k < plainStart k8 j l

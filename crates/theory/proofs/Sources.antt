@@ -1,4 +1,4 @@
--- T4: in an accepted table the order of the writes and reads of a cell is that of their starts, so sources do not depend on durations.
+-- In an accepted table the order of the writes and reads of a cell is that of their starts, so sources do not depend on durations.
 -- Assumes nothing.
 use Prim.Native.Nat.{ℕ, _+_, _*_, _<_, _≤_}
 use mathlib.Core.Path.{_≡_, sym, ap, subst}
@@ -43,7 +43,7 @@ module _ (T : Table) (ok : Accepted T) (r : List ℕ) where
       go (Cmp.same e) = same e (ℕ-discrete i j) (cmp (op T j .start) (endOf (op T i)))
       go (Cmp.more e) = absurd (omega (arith, later (T .len) e, ok .each j (y .isOp) .fits, ok .each j (y .isOp) .lasts))
 
-  -- T4: a write has ended by a reader's start exactly when it started before
+  -- a write has ended by a reader's start exactly when it started before
   pub ended-iff-started : (i k j l c : ℕ) → Runs T r k i → Runs T r l j → In c (op T i .writes) → In c (op T j .reads)
       → stops i k ≤ starts j l ↔ starts i k < starts j l
   ended-iff-started i k j l c x y w v =

@@ -109,7 +109,7 @@ module _ (T : Table) where
       middle s x l (Cmp.same y) h g = rw (y, x .keeps (suc k) (omega arith), snoc r k a m e f .at) p
       middle s x l (Cmp.more y) h g = x .via l y (omega arith)
 
-  -- T2, second half: a walk from a reachable mode is part of a run
+  -- a walk from a reachable mode is part of a run
   pub record Realised (P : ℕ → Type 0) (n a b : ℕ) (r : List ℕ) (k : ℕ) : Type 0 where
     pub ends : Ends T r (k + n) b
     pub from : mode r k ≡ a

@@ -5,7 +5,7 @@ use Rattle.rules.specs.Sets.{In, Share, Overlap}
 use Rattle.rules.specs.Table.{Table, nops, op, endOf, heldTo}
 use Rattle.theory.specs.Walks.{Reach, Walk, Any}
 
--- two operations that share a board, the second n cycles after the first on a walk from a reachable mode, do not overlap
+-- i and j share a board, and j runs n cycles after i, on a walk from a reachable mode a to b
 pub record BoardPair (T : Table) (n i j a b : ℕ) : Type 0 where
   pub first : i < nops T
   pub second : j < nops T
@@ -15,6 +15,7 @@ pub record BoardPair (T : Table) (n i j a b : ℕ) : Type 0 where
   pub walk : Walk T Any n a b
   pub ends : In b (op T j .modes)
 
+-- two such operations do not overlap, at any distance n with n * q below the length
 unfoldable pub BoardsNear : Table → ℕ → Type 0
 BoardsNear T q =
     (n : ℕ) → 1 ≤ n → n * q < T .len → (i j a b : ℕ) → BoardPair T n i j a b
@@ -45,6 +46,7 @@ pub record ValuePair (T : Table) (n c i j a b : ℕ) : Type 0 where
   pub runs : In b (op T j .modes)
   pub quiet : QuietTo T c (op T j .start) b
 
+-- what is so read has ended by the reader's start
 unfoldable pub ValuesNear : Table → ℕ → Type 0
 ValuesNear T q =
     (n : ℕ) → 1 ≤ n → n * q < T .len → (c i j a b : ℕ) → ValuePair T n c i j a b

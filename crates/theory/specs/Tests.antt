@@ -1,5 +1,5 @@
 -- Tests that compute: which modes a run can reach, whether a period is right, the period and the reply. Not part of any promise: proofs/Tests,
--- Exists and Replying show that they are what the rules say.
+-- Exists and Answering show that they are what the rules say.
 -- Assumes nothing.
 use Prim.Native.Nat.{ℕ, zero, suc, _+_, _-_, _*_, _/_, _^_}
 use mathlib.Core.Bool.{Bool, true, not, cond, _&&_}
@@ -9,8 +9,9 @@ use lib.Bits.{bitAnd, bitOr, bitXor}
 use Rattle.rules.specs.Sets.{has, shares, overlaps}
 use Rattle.rules.specs.Table.{Op, Table, nops, op, endOf, heldTo}
 use Rattle.rules.specs.Rows.{Reply, replyOf}
-use Rattle.rules.specs.Verdicts.{Verdict, accepted, onwards}
+use Rattle.rules.specs.Verdicts.{Verdict, accepted, _then_, onwards}
 use Rattle.rules.specs.Judge.{judge}
+use Rattle.rules.specs.Answers.{asked, periodAsked}
 
 -- the test f passes at each number below n
 unfoldable pub all : (ℕ → Bool) → ℕ → Bool
@@ -116,3 +117,12 @@ periodOf T = firstFrom (rightb T) (T .len - 1) 1
 unfoldable pub planOf : List ℕ → Verdict Reply
 unfolding onwards judge periodOf replyOf
 planOf s = onwards (judge s) (λ T. accepted (replyOf T (periodOf T)))
+
+-- the table of a question about q, where the table and the question are in order
+abbrev pub askedTable : List ℕ → ℕ → Verdict Table
+askedTable s q = onwards (judge s) (λ T. periodAsked T q 0 then accepted T)
+
+-- the answer whether q is right
+unfoldable pub saidOf : List ℕ → ℕ → Verdict Bool
+unfolding onwards judge asked _then_ rightb
+saidOf s q = onwards (askedTable s q) (λ T. accepted (rightb T q))
