@@ -1,0 +1,74 @@
+-- Laws of a verdict with its table, whatever was judged: refusals and accepted tables.
+-- Assumes nothing.
+use Prim.Native.Nat.{ℕ}
+use mathlib.Core.Path.{_≡_, refl, sym, ap, subst⁻¹, _∙_}
+use Rattle.rules.specs.Table.{Table, Accepted}
+use Rattle.rules.specs.Verdicts.{Verdict, accepted, refused, onwards}
+use Rattle.theory.proofs.Verdicts.{never-refused}
+use Rattle.fields.specs.Verdicts.{refusalOf, tested}
+use Rattle.fields.specs.declared.Refusal.{Refusal}
+use Rattle.fields.specs.declared.Refusal.the-variants.{Short, Order, Size, Range, Many, Clash, Race, Room, Ask}
+use Rattle.fields.specs.declared.Verdict.the-variants.{Refused}
+use Rattle.fields.specs.declared.Verdict.the-variants as said
+use Rattle.table.specs.Tables.{JudgedAs, tableOf, tableIn, noTable, Good}
+use Rattle.table.specs.TableLaws.{table-back, good-in}
+use Rattle.table.specs.declared.Table as code
+use Rattle.table.specs.declared.Judged.{Judged}
+
+-- ---- refusals
+
+-- a refusal is one whatever was to be accepted
+pub refusal-is : {A B : Type 0} (q : Refusal)
+    → (n : ℕ) × (a : ℕ) × (b : ℕ) × (refusalOf {A = A} q ≡ refused n a b) × (refusalOf {A = B} q ≡ refused n a b)
+refusal-is (Short at) = (_, _, _, refl, refl)
+refusal-is (Order at) = (_, _, _, refl, refl)
+refusal-is (Size at) = (_, _, _, refl, refl)
+refusal-is (Range at) = (_, _, _, refl, refl)
+refusal-is (Many at) = (_, _, _, refl, refl)
+refusal-is (Clash i j) = (_, _, _, refl, refl)
+refusal-is (Race i j) = (_, _, _, refl, refl)
+refusal-is (Room n) = (_, _, _, refl, refl)
+refusal-is (Ask place) = (_, _, _, refl, refl)
+
+-- a refusal with the empty table
+pub denied : (q : Refusal) → JudgedAs (refusalOf q) (record { verdict = Refused q; table = noTable })
+unfolding onwards
+denied q =
+    let (n, a, b, x, y) = refusal-is {A = Unit {0}} {B = Table} q in
+    record { said = rw (x, y); table = rw y }
+
+-- an accepted table, as the code holds it
+pub granted : (T : Table) {v : Verdict Table} {t : code.Table} → v ≡ accepted T → t ≡ tableIn T
+    → JudgedAs v (record { verdict = said.Accepted; table = t })
+unfolding onwards
+granted T e f = record { said = rw e; table = rw e f }
+
+-- ---- what a verdict of the code says
+
+-- an accepted table, and the code's
+pub record Took (v : Verdict Table) (t : code.Table) : Type 0 where
+  pub table : Table
+  pub said : v ≡ accepted table
+  pub held : t ≡ tableIn table
+
+pub judged-accepted : (v : Verdict Table) (r : Judged) → JudgedAs v r → r .verdict ≡ said.Accepted → Took v (r .table)
+unfolding onwards
+judged-accepted (accepted T) r j e = record { table = T; said = refl; held = j .table }
+judged-accepted (refused n a b) r j e = never-refused (sym (j .said) ∙ ap tested e)
+
+pub judged-refused : (v : Verdict Table) (r : Judged) (q : Refusal) → JudgedAs v r → r .verdict ≡ Refused q → v ≡ refusalOf q
+unfolding onwards
+judged-refused (accepted T) r q j e =
+    let (n, a, b, x, y) = refusal-is {A = Unit {0}} {B = Table} q in never-refused (sym x ∙ sym (ap tested e) ∙ j .said)
+judged-refused (refused n a b) r q j e =
+    let (m, c, d, x, y) = refusal-is {A = Unit {0}} {B = Table} q in
+    let same = sym x ∙ sym (ap tested e) ∙ j .said in
+    cc
+
+-- an accepted table is one that the engine takes
+module _ {v : Verdict Table} {t : code.Table} (took : Took v t) (ok : Accepted (took .table)) where
+  pub took-good : Good t
+  took-good = subst⁻¹ (λ (u : code.Table). Good u) (took .held) (good-in (took .table) ok)
+
+  pub took-table : tableOf t ≡ took .table
+  took-table = ap tableOf (took .held) ∙ table-back (took .table) (ok .words)
