@@ -1,88 +1,38 @@
--- The steps and the ends of the loops over operations and distances.
+-- What the loops over operations, distances and blocks find, as boards that are fine.
 -- Assumes nothing.
-use Prim.Native.Nat.{ℕ, zero, suc, _+_, _-_, _*_, _^_, _<_, _≤_}
-use mathlib.Core.Path.{_≡_, refl, sym, ap, ap₂, subst, _∙_}
-use mathlib.Core.Bool.{Bool, true, false, not, cond, _&&_, and-assoc}
-use mathlib.Core.List.{List, [], _∷_, map}
+use Prim.Native.Nat.{ℕ, suc, _+_, _*_, _^_, _<_, _≤_}
+use mathlib.Core.Path.{_≡_, refl, sym, ap, _∙_}
+use mathlib.Core.Bool.{Bool, true, false, not, _&&_, and-assoc}
+use mathlib.Core.List.{List, []}
 use native.Mathlib.Nat.{mul-le-mul, mul-le-mul-left, mul-le-mul-right}
 use native.Mathlib.Numerals.{add-one}
 use native.Mathlib.Omega.{arith}
-use lib.Bits.{bitAnd, bitOr, or-zero-l, or-zero-r, and-le-l}
-use lib.ListN.{length, take, getD, List·getD-map}
-use lib.Seq.{getD-take}
-use borrow.Author.Tests.{lt-ltb, le-ltb}
+use lib.Bits.{bitAnd, and-le-l}
+use lib.ListN.{length, getD}
+use borrow.Author.Tests.{not-true, not-false, lt-ltb, le-ltb}
 use Rattle.rules.specs.Sets.{Share, shares}
 use Rattle.rules.specs.Table as rules
 use Rattle.rules.specs.Table.{nops, op}
-use Rattle.theory.specs.Tests.{all, step, via, modesOf, boardBad, boardsFine}
-use Rattle.theory.proofs.Order.{Cmp, cmp}
+use Rattle.theory.specs.Tests.{all, step, modesOf, boardBad, boardsFine}
 use Rattle.theory.proofs.Says.{Says, Known, holds, fails, known, clash-bool, says-by, says-and, says-not, says-all}
 use Rattle.theory.proofs.Sets.{says-shares}
 use Rattle.theory.proofs.Modes.{in-modes}
-use Rattle.sets.specs.Laws.{or-assoc}
-use Rattle.table.specs.Tables.{opOf, tableOf, noOp, Good}
+use Rattle.table.specs.Tables.{tableOf, noOp, Good}
 use Rattle.table.specs.declared.Table.{Table}
 use Rattle.turns.specs.Turns.{singles, rowAfter, blockFrom}
-use Rattle.table.specs.TableLaws.{good-count, op-at}
 use Rattle.turns.specs.TurnLaws.{good-step, rows-same, block-row, rows-add, via-row}
 use Rattle.boards.specs.Boards.{laps, pairBad, shiftFine, distanceFine}
+use Rattle.boards.specs.AllLaws.{all-says, all-same, each-rest, all-rest, all-join}
+use Rattle.table.specs.TableLaws.{op-at}
 
--- ---- a test at each number below n
-
-all-says : (f : ℕ → Bool) (n : ℕ) → Says (all f n) ((k : ℕ) → k < n → f k ≡ true)
-all-says f n = says-all f n (λ k _. (λ e. e, λ e. e))
-
-all-same : (f g : ℕ → Bool) → ((k : ℕ) → f k ≡ g k) → (n : ℕ) → all f n ≡ all g n
-unfolding all
-all-same f g h zero = refl
-all-same f g h (suc n) = ap₂ (λ x y. x && y) (h n) (all-same f g h n)
-
-module _ (f : ℕ → Bool) where
-  pub all-none : all f 0 ≡ true
-  unfolding all
-  all-none = refl
-
-  pub all-more : (n : ℕ) → f n ≡ true → all f n ≡ true → all f (n + 1) ≡ true
-  unfolding all
-  all-more n e es = rw (add-one, e, es)
-
-  -- one number at which it fails is enough
-  pub all-hit : (n k : ℕ) → k < n → f k ≡ false → all f n ≡ false
-  all-hit n k h e = go (known (all f n))
-    where
-      go : Known (all f n) → all f n ≡ false
-      go (holds x) = clash-bool (all-says f n .0 x k h) e
-      go (fails x) = x
-
-  -- what is left, from k on, passes anyway
-  pub all-rest : (k n : ℕ) → all f k ≡ true → ((m : ℕ) → k ≤ m → f m ≡ true) → all f n ≡ true
-  all-rest k n e rest = all-says f n .1 (λ m _. go m (cmp m k))
-    where
-      go : (m : ℕ) → Cmp m k → f m ≡ true
-      go m (Cmp.less h) = all-says f k .0 e m h
-      go m (Cmp.same h) = rest m (omega arith)
-      go m (Cmp.more h) = rest m (omega arith)
-
-  -- n numbers more, from d on
-  pub all-join : (d n : ℕ) → all f d ≡ true → all (λ k. f (d + k)) n ≡ true → all f (d + n) ≡ true
-  all-join d n e es = all-says f (d + n) .1 (λ m h. go m h (cmp m d))
-    where
-      later : (m : ℕ) → m < d + n → d ≤ m → f m ≡ true
-      later m h l =
-          let back : d + (m - d) ≡ m = omega arith in
-          subst (λ (k : ℕ). f k ≡ true) back (all-says (λ k. f (d + k)) n .0 es (m - d) (omega arith))
-
-      go : (m : ℕ) → m < d + n → Cmp m d → f m ≡ true
-      go m h (Cmp.less l) = all-says f d .0 e m l
-      go m h (Cmp.same l) = later m h (omega arith)
-      go m h (Cmp.more l) = later m h (omega arith)
+-- ---- operations at a shift
 
 says-same : {P : Type 0} (a b : Bool) → Says a P → Says b P → a ≡ b
 says-same true b s t = sym (t .1 (s .0 refl))
 says-same false true s t = s .1 (t .0 refl)
 says-same false false s t = refl
 
--- none of them shares a mode with s
+-- no operation that passes f shares a mode with s
 clear-modes : (f : rules.Op → Bool) (os : List rules.Op) (s : ℕ)
     → all (λ j. not (f (getD os j rules.noOp) && shares s (getD os j rules.noOp .modes))) (length os)
     ≡ not (shares s (modesOf f os))
@@ -120,42 +70,47 @@ module _ (T : rules.Table) (R q n : ℕ) where
       )
       (sym (and-assoc (shares (op T i .boards) (op T j .boards)) _ _))
 
-  pub distance-near : R < 2 ^ 32 → suc n * q < T .len
+  distance-near : R < 2 ^ 32 → suc n * q < T .len
       → distanceFine T R q n ≡ shiftFine T (rowAfter (T .follow) singles (suc n)) R (suc n * q)
   unfolding distanceFine shiftFine
   distance-near small near =
       all-same _ _ (λ i. all-same _ _ (λ j. ap not (near-pair small near i j)) (nops T)) (nops T)
 
   -- cycles a table's length apart, or more, have nothing in common
-  pub distance-far : T .len ≤ suc n * q → (m : ℕ) → n ≤ m → distanceFine T R q m ≡ true
+  pub distance-far : T .len ≤ (n + 1) * q → (m : ℕ) → n ≤ m → distanceFine T R q m ≡ true
   unfolding distanceFine boardBad
   distance-far far m h =
-      let later : T .len ≤ suc m * q = omega (arith, mul-le-mul-right {m = suc n} {n = suc m} q (omega arith)) in
+      let later : T .len ≤ suc m * q = omega (arith, mul-le-mul-right {m = n + 1} {n = suc m} q (omega arith)) in
       all-says _ (nops T) .1 (λ i _. all-says _ (nops T) .1 (λ j _. rw (le-ltb (suc m * q) (T .len) later)))
 
 -- ---- all distances
 
 module _ (T : rules.Table) (R q d : ℕ) where
   -- d distances are fine, and the others are too far
-  pub boards-end : T .len ≤ suc d * q → all (distanceFine T R q) d ≡ true → boardsFine T R q ≡ true
+  pub boards-end : T .len ≤ (d + 1) * q → all (distanceFine T R q) d ≡ true → boardsFine T R q ≡ true
   unfolding boardsFine distanceFine
   boards-end far e = all-rest (distanceFine T R q) d (T .len) e (distance-far T R q d far)
 
-  -- one of the next m distances is not
-  pub boards-hit : (m : ℕ) → 1 ≤ q → all (λ k. distanceFine T R q (d + k)) m ≡ false → boardsFine T R q ≡ false
-  unfolding boardsFine distanceFine
-  boards-hit m low e = go (known (all (distanceFine T R q) (T .len)))
-    where
-      far : T .len ≤ suc (T .len) * q
-      far = omega (arith, mul-le-mul-left (suc (T .len)) low)
+  module _ (m : ℕ) {clear : Bool} (e : clear ≡ all (λ k. distanceFine T R q (d + k)) m) where
+    -- the next m distances are fine
+    pub boards-more : not clear ≡ false → all (distanceFine T R q) d ≡ true → all (distanceFine T R q) (d + m) ≡ true
+    boards-more x es = all-join (distanceFine T R q) d m es (sym e ∙ not-false clear x)
 
-      go : Known (all (distanceFine T R q) (T .len)) → all (distanceFine T R q) (T .len) ≡ false
-      go (fails x) = x
-      go (holds x) =
-          clash-bool
-          (all-says (λ k. distanceFine T R q (d + k)) m .1
-          (λ k _. all-says (distanceFine T R q) (suc (d + k)) .0 (all-rest (distanceFine T R q) (T .len) (suc (d + k)) x (distance-far T R q (T .len) far)) (d + k) (omega arith)))
-          e
+    -- one of them is not
+    pub boards-hit : 1 ≤ q → not clear ≡ true → boardsFine T R q ≡ false
+    unfolding boardsFine distanceFine
+    boards-hit low x = go (known (all (distanceFine T R q) (T .len)))
+      where
+        far : T .len ≤ (T .len + 1) * q
+        far = omega (arith, mul-le-mul-left (T .len + 1) low)
+
+        go : Known (all (distanceFine T R q) (T .len)) → all (distanceFine T R q) (T .len) ≡ false
+        go (fails y) = y
+        go (holds y) =
+            clash-bool
+            (all-says (λ k. distanceFine T R q (d + k)) m .1
+            (λ k _. each-rest (distanceFine T R q) (T .len) y (distance-far T R q (T .len) far) (d + k)))
+            (sym e ∙ not-true clear x)
 
 -- ---- rows and blocks
 

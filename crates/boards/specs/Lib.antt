@@ -1,2 +1,3 @@
 pub mod Boards
+pub mod AllLaws
 pub mod BoardLaws

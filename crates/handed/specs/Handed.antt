@@ -1,6 +1,6 @@
 -- A table handed over as numbers: its judgement up to CLASH and RACE, in the steps in which the code takes it.
 -- Assumes nothing.
-use Prim.Native.Nat.{ℕ, _+_, _^_, _<_, _≤_}
+use Prim.Native.Nat.{ℕ, _+_, _-_, _^_, _<_, _≤_}
 use mathlib.Core.Path.{_≡_}
 use mathlib.Core.List.{List, [], _++_}
 use lib.Dec.{ltb}
@@ -8,6 +8,8 @@ use lib.ListN.{length, getD}
 use Rattle.rules.specs.Table.{Op, Table}
 use Rattle.rules.specs.Verdicts.{Verdict, accepted, SHORT, Test, refuseIf, _then_, onwards}
 use Rattle.rules.specs.Judge.{Numbers, headOfNumbers, notMany, ranged, opOk, opOf, withOps, opsPlace, opsOfNumbers, numbersTest}
+use Rattle.table.specs.Tables.{counted}
+use Rattle.table.specs.declared.Table as code
 
 -- the numbers, as they are handed over
 abbrev pub numbers : ℕ → ℕ → ℕ → ℕ → ℕ → List ℕ → List ℕ → Numbers
@@ -30,9 +32,17 @@ opThere ns at =
       modes = getD ns (at + 5) 0;
     }
 
--- the tests of one operation, whose numbers stand first, when `left` more may come
+-- the tests of one operation, whose numbers stand first, when `left` more may come and it would be written at a place
 unfoldable pub opTest : Table → List ℕ → ℕ → ℕ → Test
 opTest T ns left at = notMany at left then refuseIf (ltb (length ns) 6) SHORT at 0 then ranged (opOk T (opOf ns)) at
+
+-- the length and the counts of the code's table
+abbrev pub countsOf : code.Table → Table
+countsOf t = counted (t .len) (t .boards) (t .cells) (t .modes)
+
+-- the tests of one operation that would come behind those of the code's table
+abbrev pub nextTest : code.Table → List ℕ → ℕ → Test
+nextTest t ns place = opTest (countsOf t) ns (32 - t .count) place
 
 -- the verdict on the operations that come behind those of os, when `left` more may come and the next would be written at a place
 unfoldable pub opsBehind : Table → List Op → List ℕ → ℕ → ℕ → Verdict Table

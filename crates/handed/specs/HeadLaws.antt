@@ -1,57 +1,27 @@
--- Laws of the judgement of numbers, step by step.
+-- Laws of the numbers before the operations: their tests, the words, and that numbers that pass fit the code's.
 -- Assumes nothing.
-use Prim.Native.Nat.{ℕ, zero, suc, _+_, _*_, _-_, _^_, _<_, _≤_}
+use Prim.Native.Nat.{ℕ, _+_, _^_, _<_, _≤_}
 use mathlib.Core.Path.{_≡_, refl, sym, ap, _∙_}
-use mathlib.Core.Bool.{Bool, true, false, not, cond, _&&_}
-use mathlib.Core.List.{List, [], _∷_, _++_, append-assoc, append-nil}
-use native.Mathlib.Nat.{add-zero}
+use mathlib.Core.Bool.{Bool, true, false, not, _&&_}
+use mathlib.Core.List.{List}
 use native.Mathlib.Omega.{arith}
 use native.Mathlib.Numerals.{add-one}
-use lib.Dec.{eqb, ltb, eqb·suc-zero}
+use lib.Dec.{eqb}
 use lib.Pow.{pow-mono}
-use lib.ListN.{length, getD, take, drop, drop-of-length-le}
-use lib.Seq.{drop-cons, getD-drop}
-use borrow.Author.Tests.{le-leb, lt-leb, lt-ltb, le-ltb, eq-eqb, ne-eqb, ltb-false, eqb-false, eqb-true, not-false}
-use Rattle.rules.specs.Table.{Op, Table, nops, SetOf}
-use Rattle.rules.specs.Verdicts.{Verdict, accepted, refused, SHORT, ORDER, SIZE, RANGE, MANY, Test, refuseIf, _then_, onwards, more}
-use Rattle.rules.specs.Judge.{Numbers, headOfNumbers, notMany, ranged, lenOk, countsOk, setOk, eachSetOk, opOk, opOf, withOps, opsPlace, opsOfNumbers, numbersTest, judgeNumbers, judgeWhole}
+use lib.ListN.{length, getD, drop, drop-of-length-le}
+use lib.Seq.{drop-cons}
+use borrow.Author.Tests.{eq-eqb, ne-eqb, eqb-true, not-false}
+use Rattle.rules.specs.Table.{SetOf}
+use Rattle.rules.specs.Verdicts.{accepted, refused, ORDER, SIZE, RANGE, refuseIf, _then_}
+use Rattle.rules.specs.Judge.{Numbers, headOfNumbers, ranged, lenOk, countsOk, setOk, eachSetOk, opsPlace, numbersTest}
 use Rattle.theory.proofs.Says.{says-leb, says-and}
-use Rattle.theory.proofs.Verdicts.{never-refused, passes, refuses, passed, then-accepts, then-refuses, then-first, then-rest, onwards-accepts, onwards-first}
+use Rattle.theory.proofs.Verdicts.{passes, refuses, passed, then-accepts, then-refuses, then-first, then-rest}
 use Rattle.theory.proofs.Judging.{says-set, says-each-set, says-counts}
 use Rattle.fields.specs.FieldLaws.{ranged-no, ranged-yes}
-use Rattle.fields.specs.Verdicts.{refusalOf, tested}
+use Rattle.fields.specs.Verdicts.{refusalOf}
 use Rattle.fields.specs.declared.Refusal.{Refusal}
-use Rattle.fields.specs.declared.Refusal.the-variants.{Short, Order, Size, Range, Many, Clash, Race, Room, Ask}
-use Rattle.fields.specs.declared.Verdict.the-variants.{Accepted, Refused}
-use Rattle.table.specs.Tables.{JudgedAs, noTable}
-use Rattle.handed.specs.Handed.{numbers, head, opThere, opTest, opsBehind, opsVerdict, numbersVerdict, SmallCounts, SmallWords, Small}
-
--- ---- refusals
-
--- a refusal is one whatever was to be accepted
-pub refusal-is : {A B : Type 0} (q : Refusal)
-    → (n : ℕ) × (a : ℕ) × (b : ℕ) × (refusalOf {A = A} q ≡ refused n a b) × (refusalOf {A = B} q ≡ refused n a b)
-refusal-is (Short at) = (_, _, _, refl, refl)
-refusal-is (Order at) = (_, _, _, refl, refl)
-refusal-is (Size at) = (_, _, _, refl, refl)
-refusal-is (Range at) = (_, _, _, refl, refl)
-refusal-is (Many at) = (_, _, _, refl, refl)
-refusal-is (Clash i j) = (_, _, _, refl, refl)
-refusal-is (Race i j) = (_, _, _, refl, refl)
-refusal-is (Room n) = (_, _, _, refl, refl)
-refusal-is (Ask place) = (_, _, _, refl, refl)
-
-module _ {B : Type 0} (q : Refusal) where
-  -- what was tested and refused stays refused, whatever would come then
-  pub denied-then : {t : Test} (w : Verdict B) → refusalOf q ≡ t → (t then w) ≡ refusalOf q
-  denied-then w e = let (n, a, b, x, y) = refusal-is {A = Unit {0}} {B = B} q in then-refuses w (sym e ∙ x) ∙ sym y
-
--- a refusal with the empty table
-pub denied : (q : Refusal) → JudgedAs (refusalOf q) (record { verdict = Refused q; table = noTable })
-unfolding onwards
-denied q =
-    let (n, a, b, x, y) = refusal-is {A = Unit {0}} {B = Table} q in
-    record { said = rw (x, y); table = rw y }
+use Rattle.pairs.specs.Whole.{then-refusal}
+use Rattle.handed.specs.Handed.{opsVerdict, numbersVerdict, SmallCounts, Small}
 
 -- ---- what stands before the operations
 
@@ -115,11 +85,12 @@ pub words-end : (n : ℕ) (ws : List ℕ) (i : ℕ) → length ws ≤ i → each
 unfolding eachSetOk
 words-end n ws i h = rw (drop-of-length-le ws h)
 
--- numbers that pass fit the code's
+-- what passes is in its range
 pub range-passed : (ok : Bool) (at : ℕ) → ranged ok at ≡ accepted tt → ok ≡ true
 unfolding ranged
 range-passed ok at e = not-false ok (passed (not ok) RANGE at 0 e)
 
+-- numbers that pass fit the code's
 fits : {n s : ℕ} → SetOf n s → n ≤ 32 → s < 2 ^ 32
 fits {n} {s} h l = let m : 2 ^ n ≤ 2 ^ 32 = pow-mono l in omega (arith, h .small)
 
@@ -148,13 +119,12 @@ test-small N e =
       follow = λ a h. fits (follow a h) (counts .few-modes);
     }
 
-
 -- ---- the verdict
 
 module _ (N : Numbers) where
   pub verdict-refused : (q : Refusal) → refusalOf q ≡ numbersTest N → numbersVerdict N ≡ refusalOf q
   unfolding numbersVerdict
-  verdict-refused q e = denied-then q (opsVerdict (headOfNumbers N) (N .ops)) e
+  verdict-refused q e = then-refusal q _ (sym e)
 
   pub verdict-ops : numbersTest N ≡ accepted tt → numbersVerdict N ≡ opsVerdict (headOfNumbers N) (N .ops)
   unfolding numbersVerdict

@@ -1,6 +1,7 @@
 pub mod Handed
+pub mod Writing
+pub mod JudgedLaws
 pub mod HeadLaws
 pub mod OpsLaws
-pub mod Writing
-pub mod WritingLaws
 pub mod JudgeLaws
+pub mod WritingLaws

@@ -1,33 +1,28 @@
 -- Laws of the operations' numbers: one operation, one after the other, and the loop over them.
 -- Assumes nothing.
-use Prim.Native.Nat.{ℕ, zero, suc, _+_, _*_, _-_, _^_, _<_, _≤_}
+use Prim.Native.Nat.{ℕ, zero, suc, _+_, _*_, _-_, _<_, _≤_}
 use mathlib.Core.Path.{_≡_, refl, sym, ap, _∙_}
-use mathlib.Core.Bool.{Bool, true, false, not, cond, _&&_}
+use mathlib.Core.Bool.{true, cond}
 use mathlib.Core.List.{List, [], _∷_, _++_, append-assoc, append-nil}
 use native.Mathlib.Nat.{add-zero}
 use native.Mathlib.Omega.{arith}
-use native.Mathlib.Numerals.{add-one}
 use lib.Dec.{eqb, ltb, eqb·suc-zero}
-use lib.Pow.{pow-mono}
 use lib.ListN.{length, drop, length-drop, length-append}
 use lib.Seq.{getD-drop, drop-drop}
-use borrow.Author.Tests.{le-leb, lt-leb, lt-ltb, le-ltb, eq-eqb, ne-eqb, ltb-false, eqb-false, eqb-true, not-false}
-use Rattle.rules.specs.Table.{Op, Table, nops, SetOf}
-use Rattle.rules.specs.Verdicts.{Verdict, accepted, refused, SHORT, ORDER, SIZE, RANGE, MANY, Test, refuseIf, _then_, onwards, more}
-use Rattle.rules.specs.Judge.{Numbers, headOfNumbers, notMany, ranged, lenOk, countsOk, setOk, eachSetOk, opOk, opOf, withOps, opsPlace, opsOfNumbers, numbersTest, judgeNumbers, judgeWhole}
-use Rattle.theory.proofs.Says.{says-leb, says-and}
-use Rattle.theory.proofs.Verdicts.{never-refused, passes, refuses, passed, then-accepts, then-refuses, then-first, then-rest, onwards-accepts, onwards-first}
-use Rattle.theory.proofs.Judging.{says-set, says-each-set, says-counts}
-use Rattle.fields.specs.FieldLaws.{ranged-no, ranged-yes}
-use Rattle.fields.specs.Verdicts.{refusalOf, tested}
+use borrow.Author.Tests.{lt-ltb, le-ltb, eq-eqb, ne-eqb, ltb-false, eqb-false}
+use Rattle.rules.specs.Table.{Op, Table}
+use Rattle.rules.specs.Verdicts.{Verdict, accepted, refused, SHORT, MANY, refuseIf, _then_, onwards, more}
+use Rattle.rules.specs.Judge.{notMany, ranged, opOk, opOf, withOps, opsPlace, opsOfNumbers}
+use Rattle.theory.proofs.Verdicts.{passes, refuses, passed, then-accepts, then-refuses, then-first, then-rest}
+use Rattle.fields.specs.Verdicts.{refusalOf}
 use Rattle.fields.specs.declared.Refusal.{Refusal}
-use Rattle.fields.specs.declared.Refusal.the-variants.{Short, Order, Size, Range, Many, Clash, Race, Room, Ask}
-use Rattle.fields.specs.declared.Verdict.the-variants.{Accepted, Refused}
-use Rattle.table.specs.Tables.{JudgedAs, tableIn, opIn, counted, withOp}
+use Rattle.fields.specs.declared.Verdict.the-variants.{Accepted}
+use Rattle.table.specs.Tables.{JudgedAs, tableIn, opIn, withOp}
 use Rattle.table.specs.TableLaws.{with-op-in}
 use Rattle.table.specs.declared.Table as code
-use Rattle.handed.specs.HeadLaws.{refusal-is, range-passed}
-use Rattle.handed.specs.Handed.{numbers, head, opThere, opTest, opsBehind, opsVerdict, numbersVerdict, SmallCounts, SmallWords, Small}
+use Rattle.table.specs.JudgedLaws.{refusal-is, granted}
+use Rattle.handed.specs.HeadLaws.{range-passed}
+use Rattle.handed.specs.Handed.{opThere, opTest, nextTest, opsBehind, opsVerdict, SmallCounts}
 
 -- ---- one operation
 
@@ -130,21 +125,19 @@ module _ (H : Table) (ns : List ℕ) where
     taken-small h = rw (k .held) (k .few, h)
 
     -- the tests go by the length and the counts of t, which are those of H
-    taken-test : (ms : List ℕ) → opTest (counted (t .len) (t .boards) (t .cells) (t .modes)) ms (32 - t .count) place ≡ opTest H ms (32 - length (k .ops)) place
+    taken-test : (ms : List ℕ) → nextTest t ms place ≡ opTest H ms (32 - length (k .ops)) place
     unfolding opTest opOk
     taken-test ms = rw (k .held)
 
     pub taken-end : length ns ≤ at → JudgedAs (opsVerdict H ns) (record { verdict = Accepted; table = t })
-    unfolding onwards
     taken-end h =
-        let e = k .rest ∙ behind-end H (k .ops) (drop at ns) _ place (omega (arith, length-drop at ns)) in
-        record { said = rw e; table = rw e (k .held) }
+        granted (withOps H (k .ops)) (k .rest ∙ behind-end H (k .ops) (drop at ns) _ place (omega (arith, length-drop at ns))) (k .held)
 
     module _ (some : at < length ns) where
       abbrev next : Op
       next = opOf (drop at ns)
 
-      pub taken-bad : (q : Refusal) → refusalOf q ≡ opTest (counted (t .len) (t .boards) (t .cells) (t .modes)) (drop at ns) (32 - t .count) place
+      pub taken-bad : (q : Refusal) → refusalOf q ≡ nextTest t (drop at ns) place
           → opsVerdict H ns ≡ refusalOf q
       taken-bad q e =
           let (n, a, b, x, y) = refusal-is {A = Unit {0}} {B = Table} q in
@@ -152,7 +145,7 @@ module _ (H : Table) (ns : List ℕ) where
           ∙ behind-bad H (k .ops) (drop at ns) _ place (omega (arith, length-drop at ns)) (sym (e ∙ taken-test (drop at ns)) ∙ x)
           ∙ sym y
 
-      pub taken-more : {u : code.Table} → opTest (counted (t .len) (t .boards) (t .cells) (t .modes)) (drop at ns) (32 - t .count) place ≡ accepted tt
+      pub taken-more : {u : code.Table} → nextTest t (drop at ns) place ≡ accepted tt
           → u ≡ withOp t (opIn next) → Taken H ns u (at + 6) (place + 21)
       taken-more {u} e f =
           let pass = sym (taken-test (drop at ns)) ∙ e in
@@ -163,10 +156,10 @@ module _ (H : Table) (ns : List ℕ) where
           record {
             ops = k .ops ++ (next ∷ []);
             held =
-            f ∙ ap (λ (v : code.Table). withOp v (opIn next)) (k .held) ∙ with-op-in H (k .ops) next (omega arith);
+                f ∙ ap (λ (v : code.Table). withOp v (opIn next)) (k .held) ∙ with-op-in H (k .ops) next (omega arith);
             few = omega arith;
             inside = omega arith;
             here = omega arith;
             rest =
-            k .rest ∙ behind-one H (k .ops) (drop at ns) _ place (omega (arith, length-drop at ns)) pass ∙ rw (less, drop-drop 6 at ns);
+                k .rest ∙ behind-one H (k .ops) (drop at ns) _ place (omega (arith, length-drop at ns)) pass ∙ rw (less, drop-drop 6 at ns);
           }

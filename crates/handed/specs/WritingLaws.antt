@@ -1,16 +1,15 @@
 -- Laws of a table's bytes: the parts, one behind the other, are the whole.
 -- Assumes nothing.
 use Prim.Native.Nat.{ℕ, _+_, _*_, _≤_}
-use mathlib.Core.Path.{_≡_, refl, sym, ap, _∙_}
-use mathlib.Core.List.{List, [], _∷_, _++_, map, append-assoc}
+use mathlib.Core.Path.{_≡_, refl, ap, _∙_}
+use mathlib.Core.List.{List, [], _∷_, _++_, map}
 use native.Mathlib.Omega.{arith}
-use lib.ListN.{length, take, length-append, length-map}
+use lib.ListN.{length, take, length-map}
 use lib.Seq.{length-take-le}
 use Rattle.rules.specs.Bytes.{be32, joined, opBytes, tableBytes}
 use Rattle.rules.specs.Judge.{opsPlace}
 use Rattle.theory.proofs.Bytes.{headBytes, words-length, head-length, table-length}
 use Rattle.table.specs.Tables.{opOf, tableOf}
-use Rattle.table.specs.declared.Op.{Op}
 use Rattle.table.specs.declared.Table.{Table}
 use Rattle.handed.specs.Writing.{bytesOfOp, sizeOf}
 

@@ -1,6 +1,6 @@
 // A table handed over as numbers: judged, and written as bytes.
 ghost use mathlib.Core.Path.{_≡_};
-ghost use Prim.Native.Nat.{_+_, _-_, _≤_};
+ghost use Prim.Native.Nat.{_+_, _≤_};
 ghost use mathlib.Core.Bool.{true};
 ghost use mathlib.Core.List.{_++_};
 ghost use lib.ListN.{length, take, drop};
@@ -9,10 +9,10 @@ ghost use Rattle.rules.specs.Judge.{numbersTest, eachSetOk, opOf, opOk, opsPlac
 ghost use Rattle.rules.specs.Answers.{IsWrite};
 ghost use Rattle.theory.proofs.Bytes.{headBytes};
 ghost use Rattle.fields.specs.Verdicts.{tested, refusalOf, answered};
-ghost use Rattle.table.specs.Tables.{JudgedAs, padded, tableOf, tableIn, wideOf, opIn, counted};
+ghost use Rattle.table.specs.Tables.{JudgedAs, padded, tableOf, tableIn, wideOf, opIn};
 ghost use Rattle.puts.specs.Puts.{stored};
 ghost use Rattle.handed.specs.Writing.{bytesOfOp, countsBytes, modesBytes, sizeOf, Writable, IsPut};
-ghost use Rattle.handed.specs.Handed.{numbers, head, opThere, opTest, opsVerdict, numbersVerdict, SmallCounts, SmallWords, Small};
+ghost use Rattle.handed.specs.Handed.{numbers, head, opThere, countsOf, nextTest, opsVerdict, numbersVerdict, SmallCounts, SmallWords, Small};
 use fields::Answer;
 use fields::Refusal;
 use fields::Verdict;
@@ -38,18 +38,26 @@ fn words_ok(modes: u32, follow: &[u64]) -> bool
     requires { ⌜ modes ≤ 32 ⌝ }
     ensures { λ r. ⌜ r ≡ eachSetOk modes (now (follow .entry)) ⌝ }
 {
-    let mut i: usize = 0;
-    while i < follow.len() {
-        if !sets::is_set_of(modes, follow[i]) {
+    let mut m: usize = 0;
+    while m < follow.len() {
+        if !sets::is_set_of(modes, follow[m]) {
             return false;
         }
-        i += 1;
+        m += 1;
     }
     true
 }
 
 // The tests of the numbers before the operations, and that there are operations.
-fn head_test(p: u64, boards: u64, cells: u64, modes: u64, first: u64, follow: &[u64], ops: &[u64]) -> Verdict
+fn head_test(
+    p: u64,
+    boards: u64,
+    cells: u64,
+    modes: u64,
+    first: u64,
+    follow: &[u64],
+    ops: &[u64],
+) -> Verdict
     ensures { λ r. ⌜ tested r ≡ numbersTest (numbers p boards cells modes first (now (follow .entry)) (now (ops .entry))) ⌝ }
 {
     if !table::len_ok(p) {
@@ -127,7 +135,7 @@ fn wide_at(ops: &[u64], at: usize) -> Wide
 // The tests of the operation that stands there and would be written at `place`, behind the operations of t.
 fn op_test(t: Table, ops: &[u64], at: usize, place: usize) -> Verdict
     requires { ⌜ (at ≤ length (now ops)) × (t .count ≤ 32) × SmallCounts (t .boards) (t .cells) (t .modes) ⌝ }
-    ensures { λ r. ⌜ tested r ≡ opTest (counted (t .len) (t .boards) (t .cells) (t .modes)) (drop at (now (ops .entry))) (32 - t .count) place ⌝ }
+    ensures { λ r. ⌜ tested r ≡ nextTest t (drop at (now (ops .entry))) place ⌝ }
 {
     let count = t.count;
     if 32 <= count {
@@ -145,7 +153,7 @@ fn op_test(t: Table, ops: &[u64], at: usize, place: usize) -> Verdict
 
 // The operation that stands there, when it has passed.
 fn op_at(t: Table, ops: &[u64], at: usize) -> Op
-    requires { ⌜ (at + 6 ≤ length (now ops)) × SmallCounts (t .boards) (t .cells) (t .modes) × (opOk (counted (t .len) (t .boards) (t .cells) (t .modes)) (opOf (drop at (now ops))) ≡ true) ⌝ }
+    requires { ⌜ (at + 6 ≤ length (now ops)) × SmallCounts (t .boards) (t .cells) (t .modes) × (opOk (countsOf t) (opOf (drop at (now ops))) ≡ true) ⌝ }
     ensures { λ r. ⌜ r ≡ opIn (opOf (drop at (now (ops .entry)))) ⌝ }
 {
     let w = wide_at(ops, at);
@@ -153,7 +161,15 @@ fn op_at(t: Table, ops: &[u64], at: usize) -> Op
 }
 
 // All the operations, judged one after the other and put into the table.
-fn take_ops(p: u64, boards: u64, cells: u64, modes: u64, first: u64, follow: &[u64], ops: &[u64]) -> Judged
+fn take_ops(
+    p: u64,
+    boards: u64,
+    cells: u64,
+    modes: u64,
+    first: u64,
+    follow: &[u64],
+    ops: &[u64],
+) -> Judged
     requires { ⌜ Small (head p boards cells modes first (now follow)) ⌝ }
     ensures { λ r. ⌜ JudgedAs (opsVerdict (head p boards cells modes first (now (follow .entry))) (now (ops .entry))) r ⌝ }
 {
@@ -180,7 +196,15 @@ fn take_ops(p: u64, boards: u64, cells: u64, modes: u64, first: u64, follow: &[u
 }
 
 // The judgement up to CLASH and RACE.
-pub fn judge_fields(p: u64, boards: u64, cells: u64, modes: u64, first: u64, follow: &[u64], ops: &[u64]) -> Judged
+pub fn judge_fields(
+    p: u64,
+    boards: u64,
+    cells: u64,
+    modes: u64,
+    first: u64,
+    follow: &[u64],
+    ops: &[u64],
+) -> Judged
     ensures { λ r. ⌜ JudgedAs (numbersVerdict (numbers p boards cells modes first (now (follow .entry)) (now (ops .entry)))) r ⌝ }
 {
     let v = head_test(p, boards, cells, modes, first, follow, ops);
@@ -191,7 +215,7 @@ pub fn judge_fields(p: u64, boards: u64, cells: u64, modes: u64, first: u64, fol
 }
 
 // The judgement of the pairs, of a table that is zero where nothing counts.
-pub fn judge_pairs(t: Table) -> Judged
+fn judge_pairs(t: Table) -> Judged
     requires { ⌜ t ≡ tableIn (tableOf t) ⌝ }
     ensures { λ r. ⌜ JudgedAs (judgeWhole (tableOf t)) r ⌝ }
 {
@@ -206,7 +230,15 @@ pub fn judge_pairs(t: Table) -> Judged
 }
 
 // The whole judgement.
-pub fn judge(p: u64, boards: u64, cells: u64, modes: u64, first: u64, follow: &[u64], ops: &[u64]) -> Judged
+pub fn judge(
+    p: u64,
+    boards: u64,
+    cells: u64,
+    modes: u64,
+    first: u64,
+    follow: &[u64],
+    ops: &[u64],
+) -> Judged
     ensures { λ r. ⌜ JudgedAs (judgeNumbers (numbers p boards cells modes first (now (follow .entry)) (now (ops .entry)))) r ⌝ }
 {
     let judged = judge_fields(p, boards, cells, modes, first, follow, ops);
@@ -305,7 +337,7 @@ pub fn put_table(out: &mut [u8], t: Table)
 }
 
 // A table's bytes at the front of a buffer, or a refusal that needs more room and keeps every byte.
-pub fn write_table(out: &mut [u8], t: Table) -> Answer
+fn write_table(out: &mut [u8], t: Table) -> Answer
     requires { ⌜ Writable t ⌝ }
     ensures { λ r. ⌜ IsPut (tableBytes (tableOf t)) (now (out .entry)) (record { answer = answered r; buffer = now (out .exit) }) ⌝ }
 {
@@ -319,7 +351,16 @@ pub fn write_table(out: &mut [u8], t: Table) -> Answer
 }
 
 // A table from its numbers: judged, and then written. On a refusal no byte changes.
-pub fn write(p: u64, boards: u64, cells: u64, modes: u64, first: u64, follow: &[u64], ops: &[u64], out: &mut [u8]) -> Answer
+pub fn write(
+    p: u64,
+    boards: u64,
+    cells: u64,
+    modes: u64,
+    first: u64,
+    follow: &[u64],
+    ops: &[u64],
+    out: &mut [u8],
+) -> Answer
     ensures { λ r. ⌜ IsWrite (numbers p boards cells modes first (now (follow .entry)) (now (ops .entry))) (now (out .entry)) (record { answer = answered r; buffer = now (out .exit) }) ⌝ }
 {
     let judged = judge(p, boards, cells, modes, first, follow, ops);

@@ -1,13 +1,13 @@
 -- Laws of stored bytes: for stores one after the other, for a loop of them, and for what is stored from the front.
 -- Assumes nothing.
 use Prim.Native.Nat.{ℕ, suc, _+_, _*_, _<_, _≤_}
-use mathlib.Core.Path.{_≡_, refl, sym, ap, _∙_}
+use mathlib.Core.Path.{_≡_, sym, ap, _∙_}
 use mathlib.Core.List.{List, [], _∷_, _++_, append-assoc, append-nil}
 use native.Mathlib.Nat.{zero-add}
 use native.Mathlib.Omega.{arith}
 use native.Mathlib.Numerals.{add-one}
 use lib.ListN.{length, getD, take, drop, set, length-append}
-use lib.Seq.{sets, length-sets, sets-eq, take-suc, take-at, drop-drop, drop-at, length-take-le}
+use lib.Seq.{sets, length-sets, sets-eq, take-suc, length-take-le}
 use Rattle.rules.specs.Bytes.{joined}
 use Rattle.theory.proofs.Bytes.{joined-length}
 use Rattle.puts.specs.Puts.{stored}

@@ -2,6 +2,7 @@
 -- Assumes nothing.
 use Prim.Native.Nat.{ℕ}
 use mathlib.Core.Path.{_≡_, refl, sym, ap, subst⁻¹, _∙_}
+use lib.ListN.{length}
 use Rattle.rules.specs.Table.{Table, Accepted}
 use Rattle.rules.specs.Verdicts.{Verdict, accepted, refused, onwards}
 use Rattle.theory.proofs.Verdicts.{never-refused}
@@ -51,6 +52,9 @@ pub record Took (v : Verdict Table) (t : code.Table) : Type 0 where
   pub said : v ≡ accepted table
   pub held : t ≡ tableIn table
 
+pub took-back : {v : Verdict Table} {t : code.Table} (k : Took v t) → length (k .table .follow) ≡ k .table .modes → tableOf t ≡ k .table
+took-back k e = ap (λ (u : code.Table). tableOf u) (k .held) ∙ table-back (k .table) e
+
 pub judged-accepted : (v : Verdict Table) (r : Judged) → JudgedAs v r → r .verdict ≡ said.Accepted → Took v (r .table)
 unfolding onwards
 judged-accepted (accepted T) r j e = record { table = T; said = refl; held = j .table }
@@ -71,4 +75,4 @@ module _ {v : Verdict Table} {t : code.Table} (took : Took v t) (ok : Accepted (
   took-good = subst⁻¹ (λ (u : code.Table). Good u) (took .held) (good-in (took .table) ok)
 
   pub took-table : tableOf t ≡ took .table
-  took-table = ap tableOf (took .held) ∙ table-back (took .table) (ok .words)
+  took-table = took-back took (ok .words)

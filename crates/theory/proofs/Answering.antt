@@ -28,7 +28,7 @@ use Rattle.theory.proofs.Lengths.{no-farther}
 -- ---- answers that are facts about what was accepted
 
 -- one answer for each thing accepted: one verdict
-answers-unique : {A B : Type 0} (P : A → B → Type 0) → ((x : A) (y z : B) → P x y → P x z → y ≡ z) → (u : Verdict A) (v w : Verdict B)
+pub answers-unique : {A B : Type 0} (P : A → B → Type 0) → ((x : A) (y z : B) → P x y → P x z → y ≡ z) → (u : Verdict A) (v w : Verdict B)
     → Answers P u v → Answers P u w → v ≡ w
 unfolding Answers
 answers-unique P one (accepted x) v w p q = p .2 ∙ ap accepted (one x (p .0) (q .0) (p .1) (q .1)) ∙ sym (q .2)

@@ -276,7 +276,7 @@ module _ (s : List ℕ) (at tag size : ℕ) (ok : Bool) where
   field-passed e = value-passed (then-rest _ _ (then-rest _ _ (then-rest _ _ (then-rest _ _ (sym field-row ∙ e)))))
 
   -- and a repeated field that passes was allowed to come
-  repeat-passed : (left : ℕ) → repeatTest s at left tag size ok ≡ accepted tt → (eqb left 0 ≡ false) × (at + 3 + size ≤ length s) × (ok ≡ true)
+  pub repeat-passed : (left : ℕ) → repeatTest s at left tag size ok ≡ accepted tt → (eqb left 0 ≡ false) × (at + 3 + size ≤ length s) × (ok ≡ true)
   unfolding notMany
   repeat-passed left e =
       let from = then-rest _ _ (then-rest _ _ (sym (repeat-row left) ∙ e)) in
@@ -292,7 +292,7 @@ pub record Passing {A : Type 0} (ok : A → Bool) (none : A) (unit left room : �
   pub each : (i : ℕ) → i < length xs → ok (getD xs i none) ≡ true
 
 -- a fact that follows on both sides of a test
-both : {A X : Type 0} (b : Bool) {u v w : A} → cond b u v ≡ w → (b ≡ true → u ≡ w → X) → (b ≡ false → v ≡ w → X) → X
+pub both : {A X : Type 0} (b : Bool) {u v w : A} → cond b u v ≡ w → (b ≡ true → u ≡ w → X) → (b ≡ false → v ≡ w → X) → X
 both true e f g = f refl e
 both false e f g = g refl e
 

@@ -17,6 +17,7 @@ pub mod Bytes
 pub mod Numbers
 pub mod Replies
 pub mod Answering
+pub mod Copies
 pub mod RoundTrip
 pub mod Margins
 pub mod Bench

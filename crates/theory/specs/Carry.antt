@@ -6,7 +6,7 @@ use mathlib.Core.Logic.{_↔_}
 use Rattle.rules.specs.Sets.{In, Share}
 use Rattle.rules.specs.Table.{Op, Table, nops, op, heldTo, Turn}
 
--- o is carried to u: the same start, the same written cells and modes, no cell read that u does not read, and no longer
+-- o is carried to u: the same start, written cells and, by f, modes; o reads no cell that u does not read, and is no longer
 pub record OpCarried (f : ℕ → ℕ) (o u : Op) : Type 0 where
   pub start : o .start ≡ u .start
   pub held : heldTo o ≤ heldTo u

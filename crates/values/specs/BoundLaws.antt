@@ -1,10 +1,9 @@
 -- The bound raised by every cell is the bound of the values: the tests of the values pass at a period exactly from it up.
 -- Assumes nothing.
 use Prim.Native.Nat.{ℕ, suc, _+_, _-_, _*_, _<_, _≤_}
-use mathlib.Core.Path.{_≡_, refl, sym, ap, _∙_}
+use mathlib.Core.Path.{_≡_, refl, _∙_}
 use mathlib.Core.Bool.{Bool, true, false, cond, false≢true}
 use mathlib.Core.List.{List}
-use mathlib.Core.Logic.{_↔_}
 use native.Mathlib.Nat.{mul-le-mul-left}
 use native.Mathlib.Decide.{decLt}
 use native.Mathlib.Omega.{arith}
@@ -21,7 +20,7 @@ use Rattle.turns.specs.TurnLaws.{length-tab, getD-tab}
 use Rattle.values.specs.Bounds.{IsBound, Raised, Each, freshRead, freshSets, InTime, TurnsFine, WriterFine, CellFine}
 use Rattle.values.specs.RaiseLaws.{raised-up, raised-to, in-time-late}
 
--- ---- a reader's fresh modes
+-- ---- a reader's fresh modes: it reads the cell, and the value comes to one of them
 shares-if : (s f : ℕ) (b : Bool) → Says (shares s (cond b f 0)) ((b ≡ true) × (shares s f ≡ true))
 shares-if s f true = (λ e. (refl, e), λ x. x .1)
 shares-if s f false = (λ e. let (m, x, y) = says-shares s 0 .0 e in absurd (in-none m y), λ x. absurd (false≢true (x .0)))
@@ -77,7 +76,7 @@ module _ (T : Table) (R q : ℕ) where
             let (r, s) = shares-if (carriedTo n c i) (freshIn T c j) (has (op T j .reads) c) .0 (rw (fresh-at T c j hj) at e) in
             absurd (x n (omega (arith, mul-le-mul-left (suc n) low)) c hc i hi j hj (near, (w, (r, (l, s)))))
 
-    pub says-fine : Says (valuesFine T R q) (Each (CellFine T R) (T .cells) q)
+    says-fine : Says (valuesFine T R q) (Each (CellFine T R) (T .cells) q)
     says-fine = says-by says-none none-fine fine-none
 
 -- at the length every value is in time

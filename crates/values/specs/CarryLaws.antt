@@ -2,7 +2,6 @@
 -- Assumes nothing.
 use Prim.Native.Nat.{ℕ, zero, suc, _+_, _*_, _<_, _≤_}
 use mathlib.Core.Path.{_≡_}
-use mathlib.Core.Bool.{true}
 use mathlib.Core.List.{List}
 use mathlib.Core.Logic.{_↔_, _⊎_, inl, inr}
 use native.Mathlib.Nat.{mul-le-mul, mul-le-mul-right}
@@ -10,7 +9,7 @@ use native.Mathlib.Omega.{arith}
 use lib.Bits.{bitOr}
 use lib.ListN.{getD}
 use borrow.Author.Tests.{eq-eqb}
-use Rattle.rules.specs.Sets.{In, Share, Within, shares}
+use Rattle.rules.specs.Sets.{In, Share, Within}
 use Rattle.rules.specs.Table.{Table, nops, op}
 use Rattle.theory.specs.Tests.{without, step, via}
 use Rattle.theory.proofs.Sets.{in-none, in-or, in-without, says-shares, says-within}
@@ -99,13 +98,13 @@ module _ (T : Table) (fresh : List ℕ) (w end : ℕ) where
     done : ((q : ℕ) → b ≤ q → TurnsFine T fresh w end n modes q) → Raised b₀ (TurnsFine T fresh w end 0 from) b
     done f = record { exact = λ q. (λ h. x .whole q .1 (h, f q h), λ y. x .whole q .0 y .0) }
 
-    -- since b itself takes the value past its end
+    -- since n + 1 cycles of b take until the value's end
     pub carried-far : end ≤ (n + 1) * b → Raised b₀ (TurnsFine T fresh w end 0 from) b
     unfolding TurnsFine
     carried-far l =
         done (λ q h m j g e. let k : n + 1 ≤ suc (n + m) = omega arith in omega (arith, mul-le-mul k h))
 
-    -- since no mode is new
+    -- since no mode is new: all that the value can still come to was seen
     pub carried-seen : without next seen ≡ 0 → Raised b₀ (TurnsFine T fresh w end 0 from) b
     unfolding TurnsFine via
     carried-seen e =

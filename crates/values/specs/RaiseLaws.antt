@@ -1,9 +1,9 @@
 -- What it takes to raise a bound: one number more, and one reader.
 -- Assumes nothing.
 use Prim.Native.Nat.{ℕ, suc, _+_, _-_, _*_, _/_, _<_, _≤_}
-use mathlib.Core.Path.{_≡_, sym, subst}
+use mathlib.Core.Path.{sym, subst}
 use mathlib.Core.Logic.{_↔_}
-use native.Mathlib.Nat.{mul-comm, mul-le-mul-left, mul-le-mul-right, div-lt-iff-lt-mul}
+use native.Mathlib.Nat.{mul-comm, mul-le-mul, mul-le-mul-left, mul-le-mul-right, div-lt-iff-lt-mul}
 use native.Mathlib.Decide.{decLe}
 use native.Mathlib.Omega.{arith}
 use Rattle.theory.proofs.Order.{Cmp, cmp}
@@ -12,11 +12,11 @@ use Rattle.values.specs.Bounds.{Raised, Each, InTime}
 -- ---- raising
 
 module _ {b r : ℕ} {Q : ℕ → Type 0} (x : Raised b Q r) where
-  -- it is raised, not lowered
+  -- not below b
   pub raised-up : b ≤ r
   raised-up = x .exact r .0 (omega arith) .0
 
-  -- where Q holds it is not passed
+  -- and not above any number from b up at which Q holds
   pub raised-to : (q : ℕ) → b ≤ q → Q q → r ≤ q
   raised-to q h y = x .exact q .1 (h, y)
 
@@ -47,13 +47,21 @@ each-more {P} {a} {b} {r} {k} x y =
     go q u w j g (Cmp.same e) = subst (λ (i : ℕ). P i q) (sym e) u
     go q u w j g (Cmp.more h) = absurd (omega arith)
 
--- ---- one reader: a value in time at b is in time from b on, and one that is not raises b to the quotient, rounded up
+-- ---- one reader
+
+-- a value in time at b is in time from b on
 pub in-time-on : (end start n b q : ℕ) → InTime end start n b → b ≤ q → InTime end start n q
 in-time-on end start n b q h l = omega (arith, mul-le-mul-left (suc n) l)
 
+-- n + 1 cycles of a bound, both in range
+pub cycles-fit : (n b : ℕ) → n ≤ 1000 → b ≤ 1000 → (n + 1) * b ≤ 1001000
+cycles-fit n b h l = let k : n + 1 ≤ 1001 = omega arith in omega (arith, mul-le-mul k l)
+
+-- what is written at `end` is in time at every period from `end` up
 pub in-time-late : (end start n q : ℕ) → end ≤ q → InTime end start n q
 in-time-late end start n q h = let l : 1 ≤ suc n = omega arith in omega (arith, mul-le-mul-right q l)
 
+-- a value that is not in time at b raises it to the quotient, rounded up
 pub quotient-asked : (end start n b : ℕ) → start + suc n * b < end → Raised b (InTime end start n) ((end - start + n) / suc n)
 quotient-asked end start n b h = record { exact = λ q. (fwd q, λ (l, y). bwd q y) }
   where

@@ -40,9 +40,9 @@ unfolding modesOf
 modes-same f g [] h = refl
 modes-same f g (o ∷ os) h = rw (h 0 (omega arith), modes-same f g os (λ i l. h (suc i) (omega arith)))
 
--- every write ends after tick 0 and by the length, so the three sets of modes of the tests are
+-- ---- the three sets of modes of the tests: every write ends after tick 0 and by the length
 module _ (T : rules.Table) (ok : Accepted T) (c : ℕ) where
-  -- all that write c
+  -- those in which c is written
   pub within-writers : modesOf (writesWithin c 0 (T .len)) (T .ops) ≡ writers T c
   unfolding writers
   within-writers =
@@ -54,7 +54,7 @@ module _ (T : rules.Table) (ok : Accepted T) (c : ℕ) where
         and-true (has (op T u .writes) c),
       ))
 
-  -- those in which i is the last
+  -- of those of i, the ones in which it is the last to write c
   pub within-last : (i : ℕ) → without (op T i .modes) (modesOf (writesWithin c (endOf (op T i)) (T .len)) (T .ops)) ≡ lastIn T c i
   unfolding lastIn
   within-last i =
@@ -63,7 +63,7 @@ module _ (T : rules.Table) (ok : Accepted T) (c : ℕ) where
       (λ u l.
       rw (le-leb (endOf (op T u)) (T .len) (ok .each u l .fits), and-true (ltb (endOf (op T i)) (endOf (op T u))))))
 
-  -- those in which nothing is written by the start of j
+  -- of those of j, the ones in which no write of c ends by its start
   pub within-fresh : (j : ℕ) → without (op T j .modes) (modesOf (writesWithin c 0 (op T j .start)) (T .ops)) ≡ freshIn T c j
   unfolding freshIn
   within-fresh j =

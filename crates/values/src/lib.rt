@@ -1,7 +1,7 @@
 // The bound of the values: the smallest period at which every value that a later cycle takes over has been written in time.
 ghost use mathlib.Core.Path.{_≡_};
 ghost use mathlib.Core.Bool.{true, cond};
-ghost use Prim.Native.Nat.{suc, _+_, _*_, _<_, _≤_};
+ghost use Prim.Native.Nat.{_<_, _≤_};
 ghost use Rattle.rules.specs.Sets.{shares};
 ghost use Rattle.rules.specs.Table.{nops, endOf};
 ghost use Rattle.theory.specs.Tests.{modesOf, writers};
@@ -54,7 +54,7 @@ fn written_within(t: Table, c: u32, after: u32, by: u32) -> u32
 
 // ---- readers
 
-// The modes in which operation j reads c and finds what an earlier cycle left there.
+// The modes in which operation j reads c and finds what an earlier cycle left there; none where it does not read c.
 fn fresh_in(t: Table, c: u32, j: usize) -> u32
     requires { ⌜ Good t × (c < 32) × (j < t .count) ⌝ }
     ensures { λ r. ⌜ r ≡ freshRead (tableOf t) c j ⌝ }
@@ -80,7 +80,8 @@ fn fresh_sets(t: Table, c: u32) -> [u32; 32]
     out
 }
 
-// The bound, raised until what is written at `end` is in time for a reader, n + 1 cycles later, whose fresh modes meet `modes`.
+// The bound, raised until what is written at `end` is in time for a reader that starts n + 1 cycles later, if the value comes to one of its
+// fresh modes. The quotient is rounded up.
 fn ask_reader(modes: u32, fresh: u32, end: u32, start: u32, n: u32, bound: u32) -> u32
     requires { ⌜ (end ≤ 1000) × (start ≤ 1000) × (n ≤ 1000) × (bound ≤ 1000) ⌝ }
     ensures { λ r. ⌜ Raised bound (λ q. shares modes fresh ≡ true → InTime end start n q) r ⌝ }
@@ -94,7 +95,7 @@ fn ask_reader(modes: u32, fresh: u32, end: u32, start: u32, n: u32, bound: u32) 
     (end - start + n) / (n + 1)
 }
 
-// The bound, raised by every reader.
+// The bound, raised by every reader of a value that has come to the modes `modes` after n + 1 turns.
 fn ask_readers(t: Table, fresh: [u32; 32], modes: u32, end: u32, n: u32, bound: u32) -> u32
     requires { ⌜ Good t × (end ≤ t .len) × (n ≤ 1000) × (bound ≤ t .len) ⌝ }
     ensures { λ r. ⌜ Raised bound (Each (ReaderFine (tableOf t) fresh modes end n) (nops (tableOf t))) r ⌝ }
@@ -110,8 +111,9 @@ fn ask_readers(t: Table, fresh: [u32; 32], modes: u32, end: u32, n: u32, bound: 
 
 // ---- distances
 
-// The bound, raised at every distance by what is written at `end` in one of the modes `from` and then not written over. A distance at
-// which the bound itself takes the value past its end, or at which no mode is new, ends the search: no further one asks for more.
+// The bound, raised at every distance by what is written at `end` in one of the modes `from`, until it is written over: an idle mode hides
+// nothing. The search ends where n + 1 cycles of the bound itself take until `end`, or where no mode is new: a reader in a mode that was
+// seen before asked for more then than it would now.
 fn ask_turns(t: Table, fresh: [u32; 32], written: u32, from: u32, end: u32, bound: u32) -> u32
     requires { ⌜ Good t × (end ≤ t .len) × (1 ≤ bound) × (bound ≤ t .len) ⌝ }
     ensures { λ r. ⌜ Raised bound (TurnsFine (tableOf t) fresh written end 0 from) r ⌝ }
@@ -136,9 +138,18 @@ fn ask_turns(t: Table, fresh: [u32; 32], written: u32, from: u32, end: u32, boun
 
 // ---- writers and cells
 
-// The bound, raised by what operation i writes into c.
-fn ask_writer(t: Table, reached: u32, c: u32, i: usize, written: u32, fresh: [u32; 32], bound: u32) -> u32
-    requires { ⌜ Good t × (c < 32) × (i < t .count) × (1 ≤ bound) × (bound ≤ t .len) × (written ≡ writers (tableOf t) c) × (fresh ≡ freshSets (tableOf t) c) ⌝ }
+// The bound, raised by what operation i writes into c, from the reached modes in which it is the last to write c.
+fn ask_writer(
+    t: Table,
+    reached: u32,
+    c: u32,
+    i: usize,
+    written: u32,
+    fresh: [u32; 32],
+    bound: u32,
+) -> u32
+    requires { ⌜ Good t × (c < 32) × (i < t .count) × (1 ≤ bound) × (bound ≤ t .len)
+        × (written ≡ writers (tableOf t) c) × (fresh ≡ freshSets (tableOf t) c) ⌝ }
     ensures { λ r. ⌜ Raised bound (WriterFine (tableOf t) reached c i) r ⌝ }
 {
     let o = t.ops[i];

@@ -3,14 +3,14 @@
 use Prim.Native.Nat.{_+_, _-_, _≤_}
 use mathlib.Core.Bool.{true}
 use mathlib.Core.Path.{_≡_, sym, _∙_}
-use native.Mathlib.Numerals.{add-one}
 use native.Mathlib.Omega.{arith}
 use borrow.Author.Needs.{needs}
 use borrow.Author.Tests.{not-true, not-false}
 use Rattle.theory.specs.Tests.{all}
 use Rattle.table.specs.Tables.{tableOf}
 use Rattle.boards.specs.Boards.{distanceFine}
-use Rattle.boards.specs.BoardLaws.{all-none, all-more, all-hit, all-rest, distance-far, distance-at, shift-small}
+use Rattle.boards.specs.AllLaws.{all-none, all-more, all-hit, all-rest}
+use Rattle.boards.specs.BoardLaws.{distance-far, distance-at, shift-small}
 use Rattle.boards.proofs.block_clear.Statement.{statement}
 use Rattle.boards.proofs.block_clear.Tie as tie
 
@@ -35,7 +35,7 @@ add-shift-2 c = omega arith
 mul-shift : tie.Need-mul-shift Inv-loop μ-loop
 mul-shift c =
     let s = c .before .before in
-    omega (arith, shift-small (s .args .t) (s .pre .0) (s .args .done + c .before .loop .k + 1) (s .args .q) (omega arith) (s .pre .2))
+    record { fits = shift-small (s .args .t) (s .pre .0) _ _ (omega arith) (s .pre .2) }
 
 returns : tie.Need-returns Inv-loop μ-loop
 returns c =
@@ -44,7 +44,7 @@ returns c =
     let k = l .loop .k in
     sym
     (all-rest _ k 16 (l .loop .inv .1)
-    (λ m h. distance-far (tableOf (s .args .t)) (s .args .reached) (s .args .q) (s .args .done + k) (rw add-one at (c .if1 .taken)) (s .args .done + m) (omega arith)))
+    (λ m h. distance-far (tableOf (s .args .t)) (s .args .reached) (s .args .q) (s .args .done + k) (c .if1 .taken) (s .args .done + m) (omega arith)))
 
 mul-row : tie.Need-mul-row Inv-loop μ-loop
 mul-row c = omega arith
@@ -62,9 +62,7 @@ returns-2 c =
     let l = e1 .before .before .before in
     let s = l .before in
     let k = l .loop .k in
-    let e =
-    distance-at (s .args .t) (s .pre .0) (s .args .done) (s .pre .1) (s .args .reached) (s .args .q) k (omega arith) (omega arith) (e1 .if1 .left) (x .distance-clear .ensures)
-    ∙ not-true (x .distance-clear .result) (c .if2 .taken) in
+    let e = distance-at (s .args .t) (s .pre .0) (s .args .done) (s .pre .1) (s .args .reached) (s .args .q) k (omega arith) (omega arith) (e1 .if1 .left) (x .distance-clear .ensures) ∙ not-true (x .distance-clear .result) (c .if2 .taken) in
     sym (all-hit _ 16 k (omega arith) e)
 
 add-k : tie.Need-add-k Inv-loop μ-loop
@@ -80,9 +78,7 @@ loop-again c =
     let l = e1 .before .before .before in
     let s = l .before in
     let k = l .loop .k in
-    let e =
-    distance-at (s .args .t) (s .pre .0) (s .args .done) (s .pre .1) (s .args .reached) (s .args .q) k (omega arith) (omega arith) (e1 .if1 .left) (x .distance-clear .ensures)
-    ∙ not-false (x .distance-clear .result) (c .if2 .left) in
+    let e = distance-at (s .args .t) (s .pre .0) (s .args .done) (s .pre .1) (s .args .reached) (s .args .q) k (omega arith) (omega arith) (e1 .if1 .left) (x .distance-clear .ensures) ∙ not-false (x .distance-clear .result) (c .if2 .left) in
     (omega arith, all-more _ k e (l .loop .inv .1))
 
 returns-3 : tie.Need-returns-3 Inv-loop μ-loop

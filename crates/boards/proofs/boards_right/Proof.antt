@@ -1,18 +1,17 @@
 -- The first `done` distances are fine, and the block has the rows of the next sixteen. Where none is left that is near enough, all are fine.
 -- Assumes nothing.
-use Prim.Native.Nat.{_+_, _-_, _<_, _≤_}
+use Prim.Native.Nat.{_+_, _-_, _<_}
 use mathlib.Core.Bool.{true}
-use mathlib.Core.Path.{_≡_, refl, sym, _∙_}
+use mathlib.Core.Path.{_≡_, sym}
 use native.Mathlib.Nat.{mul-le-mul-left}
-use native.Mathlib.Numerals.{add-one}
 use native.Mathlib.Omega.{arith}
 use borrow.Author.Needs.{needs}
-use borrow.Author.Tests.{not-true, not-false}
 use Rattle.theory.specs.Tests.{all}
 use Rattle.table.specs.Tables.{tableOf}
 use Rattle.turns.specs.Turns.{singles, rowAfter, blockFrom}
 use Rattle.boards.specs.Boards.{distanceFine}
-use Rattle.boards.specs.BoardLaws.{all-none, all-join, boards-end, boards-hit, block-next, shift-small}
+use Rattle.boards.specs.AllLaws.{all-none}
+use Rattle.boards.specs.BoardLaws.{boards-end, boards-more, boards-hit, block-next, shift-small}
 use Rattle.boards.proofs.boards_right.Statement.{statement}
 use Rattle.boards.proofs.boards_right.Tie as tie
 
@@ -34,9 +33,7 @@ returns c =
     let x = c .before in
     let l = x .before in
     let s = l .before .before in
-    sym
-    (boards-hit (tableOf (s .args .t)) (s .args .reached) (s .args .q) (l .loop .done) 16 (s .pre .2)
-    (sym (x .block-clear .ensures) ∙ not-true (x .block-clear .result) (c .if1 .taken)))
+    sym (boards-hit (tableOf (s .args .t)) (s .args .reached) (s .args .q) (l .loop .done) 16 (x .block-clear .ensures) (s .pre .2) (c .if1 .taken))
 
 add-done : tie.Need-add-done Inv-loop μ-loop
 add-done c = omega arith
@@ -46,9 +43,8 @@ add-if2 c = omega arith
 
 mul-if2 : tie.Need-mul-if2 Inv-loop μ-loop
 mul-if2 c =
-    let l = c .before .before in
-    let s = l .before .before in
-    omega (arith, shift-small (s .args .t) (s .pre .0) (l .loop .done + 16 + 1) (s .args .q) (omega arith) (s .pre .3))
+    let s = c .before .before .before .before in
+    record { fits = shift-small (s .args .t) (s .pre .0) _ _ (omega arith) (s .pre .3) }
 
 array-copy-out-block : tie.Need-array-copy-out-block Inv-loop μ-loop
 array-copy-out-block c = omega arith
@@ -68,7 +64,7 @@ loop-again c =
     let done = l .loop .done in (
       omega (arith, mul-le-mul-left (done + 16 + 1) (s .pre .2)),
       rw (c .block .ensures, l .loop .inv .1) (block-next _ _ done),
-      all-join _ done 16 (l .loop .inv .2) (sym (e1 .before .block-clear .ensures) ∙ not-false (e1 .before .block-clear .result) (e1 .if1 .left)),
+      boards-more (tableOf (s .args .t)) (s .args .reached) (s .args .q) done 16 (e1 .before .block-clear .ensures) (e1 .if1 .left) (l .loop .inv .2),
     )
 
 returns-2 : tie.Need-returns-2 Inv-loop μ-loop
@@ -78,8 +74,8 @@ returns-2 c =
     let s = l .before .before in
     let done = l .loop .done in
     sym
-    (boards-end (tableOf (s .args .t)) (s .args .reached) (s .args .q) (done + 16) (rw add-one at (c .if2 .taken))
-    (all-join _ done 16 (l .loop .inv .2) (sym (e1 .before .block-clear .ensures) ∙ not-false (e1 .before .block-clear .result) (e1 .if1 .left))))
+    (boards-end (tableOf (s .args .t)) (s .args .reached) (s .args .q) (done + 16) (c .if2 .taken)
+    (boards-more (tableOf (s .args .t)) (s .args .reached) (s .args .q) done 16 (e1 .before .block-clear .ensures) (e1 .if1 .left) (l .loop .inv .2)))
 
 pub boards-right-spec : {M : Type 1} → statement M
 boards-right-spec =

@@ -1,6 +1,5 @@
 -- Nothing shares a mode with the empty set; otherwise one turn by the row is made.
 -- Assumes nothing.
-use mathlib.Core.Path.{_≡_, _∙_}
 use lib.Bits.{and-zero-r}
 use borrow.Author.Needs.{needs}
 use Rattle.rules.specs.Sets.{shares}

@@ -1,4 +1,4 @@
--- The operations before i are clear of all that come after them; one that is not is enough for the answer.
+-- Each operation before i is clear of all of them in the later cycle; one that is not is enough for the answer.
 -- Assumes nothing.
 use Prim.Native.Nat.{_-_, _<_, _≤_}
 use mathlib.Core.Bool.{true, not}
@@ -9,8 +9,9 @@ use Rattle.rules.specs.Table.{nops, op}
 use Rattle.theory.specs.Tests.{all}
 use Rattle.table.specs.Tables.{tableOf}
 use Rattle.boards.specs.Boards.{pairBad, shiftFine}
-use Rattle.boards.specs.BoardLaws.{all-none, all-more, all-hit, op-fine}
+use Rattle.boards.specs.AllLaws.{all-none, all-more, all-hit}
 use Rattle.table.specs.TableLaws.{good-count, good-few}
+use Rattle.boards.specs.BoardLaws.{op-fine}
 use Rattle.boards.proofs.distance_clear.Statement.{statement}
 use Rattle.boards.proofs.distance_clear.Tie as tie
 

@@ -2,7 +2,6 @@
 -- Assumes nothing.
 use borrow.Author.Needs.{needs}
 use borrow.Author.Tests.{not-true, not-false, lt-ltb, le-ltb}
-use native.Mathlib.Omega.{arith}
 use Rattle.boards.specs.Boards.{laps}
 use Rattle.boards.proofs.lap.Statement.{statement}
 use Rattle.boards.proofs.lap.Tie as tie

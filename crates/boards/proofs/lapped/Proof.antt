@@ -3,14 +3,13 @@
 use Prim.Native.Nat.{_+_, _-_, _<_, _≤_}
 use mathlib.Core.Bool.{true, false, cond}
 use mathlib.Core.Logic.{⊎-elim}
-use mathlib.Core.Path.{_≡_, refl, sym, ap, _∙_}
+use mathlib.Core.Path.{_≡_, refl, sym, _∙_}
 use native.Mathlib.Numerals.{add-one}
 use native.Mathlib.Omega.{arith}
 use lib.Bits.{bitOr, or-zero-r}
 use lib.ListN.{length, take, getD}
 use lib.Seq.{take-all}
 use borrow.Author.Needs.{needs}
-use Rattle.rules.specs.Table.{op}
 use Rattle.theory.specs.Tests.{modesOf}
 use Rattle.table.specs.Tables.{opOf, tableOf, noOp}
 use Rattle.boards.specs.Boards.{laps}
@@ -59,8 +58,7 @@ loop-again c =
     let l : j < t .count = omega arith in
     let h : j < length (tableOf t .ops) = omega (arith, good-count t (s .pre .0)) in
     let f = laps (opOf (getD (t .ops) (s .args .i) noOp)) (s .args .shift) in
-    let next : modesOf f (take (j + 1) (tableOf t .ops)) ≡ bitOr (i .loop .modes) (cond (c .before .lap .result) (getD (t .ops) j noOp .modes) 0) =
-    rw (add-one, modes-next f (tableOf t .ops) j h, op-at t j l, ← c .before .lap .ensures, ← i .loop .inv .2) in (
+    let next : modesOf f (take (j + 1) (tableOf t .ops)) ≡ bitOr (i .loop .modes) (cond (c .before .lap .result) (getD (t .ops) j noOp .modes) 0) = rw (add-one, modes-next f (tableOf t .ops) j h, op-at t j l, ← c .before .lap .ensures, ← i .loop .inv .2) in (
       omega arith,
       i .loop .inv .1,
       ⊎-elim

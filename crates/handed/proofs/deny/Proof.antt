@@ -1,7 +1,7 @@
 -- The refusal is the answer's, and the table is the empty one.
 -- Assumes nothing.
 use borrow.Author.Needs.{needs}
-use Rattle.handed.specs.HeadLaws.{denied}
+use Rattle.table.specs.JudgedLaws.{denied}
 use Rattle.handed.proofs.deny.Statement.{statement}
 use Rattle.handed.proofs.deny.Tie as tie
 

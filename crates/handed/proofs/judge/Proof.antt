@@ -1,39 +1,39 @@
+-- The fields are judged first, and of a table that they make the pairs.
+-- Assumes nothing.
 use borrow.Author.Needs.{needs}
+use Rattle.table.specs.JudgedLaws.{judged-accepted}
+use Rattle.handed.specs.JudgeLaws.{fields-refused, took-kept, took-judged}
 use Rattle.handed.proofs.judge.Statement.{statement}
 use Rattle.handed.proofs.judge.Tie as tie
-use Rattle.handed.proofs.judge.Reads as reads
-use Rattle.handed.proofs.judge.Lts as lts
-use Rattle.handed.proofs.deny.Reads as deny-reads
-use Rattle.handed.proofs.judge_fields.Reads as judge-fields-reads
-use Rattle.handed.proofs.judge_pairs.Reads as judge-pairs-reads
 
--- src/lib.rt:212:9
 judge-fields-requires : tie.Need-judge-fields-requires
 judge-fields-requires c κs = search needs
 
--- src/lib.rt:215:26
 enum-known-v : tie.Need-enum-known-v
 enum-known-v c = search needs
 
--- src/lib.rt:215:32
 deny-requires : tie.Need-deny-requires
 deny-requires c κs = search needs
 
--- src/lib.rt:217:17
 enum-told : tie.Need-enum-told
 enum-told c = search needs
 
--- src/lib.rt:218:13
 judge-pairs-requires : tie.Need-judge-pairs-requires
-judge-pairs-requires c κs = ?
+judge-pairs-requires c κs =
+    let e = c .before in
+    let j = e .before .before in
+    took-kept _ (judged-accepted _ _ (j .judge-fields .ensures) (e .enum-told .given .1))
 
--- src/lib.rt:209:1
 returns : tie.Need-returns
-returns c = ?
+returns c =
+    let v = c .before .before in
+    rw (fields-refused _ _ (v .v .given .0 .0) (v .before .before .judge-fields .ensures) (v .v .given .1)) (c .deny .ensures)
 
--- src/lib.rt:209:1
 returns-2 : tie.Need-returns-2
-returns-2 c = ?
+returns-2 c =
+    let e = c .before .before in
+    let j = e .before .before in
+    rw (took-judged _ (judged-accepted _ _ (j .judge-fields .ensures) (e .enum-told .given .1))) (c .judge-pairs .ensures)
 
 pub judge-spec : {M : Type 1} → statement M
 judge-spec =

@@ -1,34 +1,38 @@
+-- The table is handed on where neither a clash nor a race is found; otherwise the refusal is the answer.
+-- Assumes nothing.
+use mathlib.Core.Path.{_≡_, sym, ap, _∙_}
+use lib.ListN.{length, length-map}
 use borrow.Author.Needs.{needs}
+use Rattle.fields.specs.Verdicts.{tested}
+use Rattle.table.specs.JudgedLaws.{granted}
+use Rattle.handed.specs.JudgedLaws.{whole-refused, whole-accepted, kept-few}
 use Rattle.handed.proofs.judge_pairs.Statement.{statement}
 use Rattle.handed.proofs.judge_pairs.Tie as tie
-use Rattle.handed.proofs.judge_pairs.Reads as reads
-use Rattle.handed.proofs.judge_pairs.Lts as lts
-use Rattle.handed.proofs.deny.Reads as deny-reads
-use Rattle.pairs.proofs.whole.Reads as whole-reads
 
--- src/lib.rt:198:9
 whole-requires : tie.Need-whole-requires
-whole-requires c κs = ?
+whole-requires c κs =
+    let long : length (c .args .t .ops) ≡ 32 = simp length-map at (c .good .0 .1 .1 .1 .1 .1 .1 .1 .1 .0 .1 .0 .1) in
+    kept-few (c .args .t) long (c .pre)
 
--- src/lib.rt:200:26
 enum-known-v : tie.Need-enum-known-v
 enum-known-v c = search needs
 
--- src/lib.rt:200:32
 deny-requires : tie.Need-deny-requires
 deny-requires c κs = search needs
 
--- src/lib.rt:202:22
 enum-told : tie.Need-enum-told
 enum-told c = search needs
 
--- src/lib.rt:194:1
 returns : tie.Need-returns
-returns c = ?
+returns c =
+    let v = c .before .before in
+    let w = v .before .before in
+    rw (whole-refused _ (v .v .given .0 .0) (sym (ap tested (v .v .given .1)) ∙ w .whole .ensures)) (c .deny .ensures)
 
--- src/lib.rt:194:1
 returns-2 : tie.Need-returns-2
-returns-2 c = ?
+returns-2 c =
+    let w = c .before .before in
+    granted _ (whole-accepted _ (sym (w .whole .ensures) ∙ ap tested (c .enum-told .given .1))) (w .before .pre)
 
 pub judge-pairs-spec : {M : Type 1} → statement M
 judge-pairs-spec =

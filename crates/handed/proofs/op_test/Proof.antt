@@ -1,16 +1,15 @@
 -- Each return is one outcome of the row of tests.
 -- Assumes nothing.
-use Prim.Native.Nat.{_-_, _<_, _≤_}
 use mathlib.Core.Path.{_≡_, sym, _∙_}
 use mathlib.Core.Bool.{true, false}
 use native.Mathlib.Omega.{arith}
-use lib.ListN.{length, drop, length-drop}
+use lib.ListN.{drop, length-drop}
 use denote.Ref.{now}
 use borrow.Author.Needs.{needs}
 use borrow.Author.Tests.{not-true, not-false}
 use Rattle.rules.specs.Judge.{opOf, opOk}
 use Rattle.fields.specs.FieldLaws.{ranged-no, ranged-yes}
-use Rattle.table.specs.Tables.{counted}
+use Rattle.handed.specs.Handed.{countsOf}
 use Rattle.handed.specs.OpsLaws.{op-there, op-many, op-short, op-whole}
 use Rattle.handed.proofs.op_test.Statement.{statement}
 use Rattle.handed.proofs.op_test.Tie as tie
@@ -38,7 +37,7 @@ returns-3 c =
     let a = w .before .before .before .before .args in
     let ns = drop (a .at) (now (a .ops)) in
     let e = w .wide-at .ensures ∙ op-there (now (a .ops)) (a .at) in
-    let no : opOk (counted (a .t .len) (a .t .boards) (a .t .cells) (a .t .modes)) (opOf ns) ≡ false =
+    let no : opOk (countsOf (a .t)) (opOf ns) ≡ false =
     rw (← e) (sym (c .before .wide-ok .ensures) ∙ not-true _ (c .if3 .taken))
     in
     sym (op-whole _ ns _ (a .place) (omega arith) (omega (arith, length-drop (a .at) (now (a .ops)))) ∙ ranged-no _ (a .place) no)
@@ -49,7 +48,7 @@ returns-4 c =
     let a = w .before .before .before .before .args in
     let ns = drop (a .at) (now (a .ops)) in
     let e = w .wide-at .ensures ∙ op-there (now (a .ops)) (a .at) in
-    let ok : opOk (counted (a .t .len) (a .t .boards) (a .t .cells) (a .t .modes)) (opOf ns) ≡ true =
+    let ok : opOk (countsOf (a .t)) (opOf ns) ≡ true =
     rw (← e) (sym (c .before .wide-ok .ensures) ∙ not-false _ (c .if3 .left))
     in
     sym (op-whole _ ns _ (a .place) (omega arith) (omega (arith, length-drop (a .at) (now (a .ops)))) ∙ ranged-yes _ (a .place) ok)

@@ -5,7 +5,6 @@ use mathlib.Core.Path.{_≡_, refl, ap, _∙_}
 use native.Mathlib.Omega.{arith}
 use lib.ListN.{length, take, length-map}
 use denote.Ref.{now}
-use borrow.Author.Needs.{needs}
 use Rattle.rules.specs.Bytes.{joined}
 use Rattle.rules.specs.Judge.{opsPlace}
 use Rattle.puts.specs.Puts.{stored}

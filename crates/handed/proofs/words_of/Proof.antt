@@ -2,12 +2,10 @@
 -- Assumes nothing.
 use Prim.Native.Nat.{_-_, _<_, _≤_}
 use mathlib.Core.Path.{_≡_, refl, sym, ap, _∙_}
-use mathlib.Core.List.{List}
 use native.Mathlib.Omega.{arith}
 use native.Mathlib.Numerals.{add-one}
-use lib.ListN.{length, take, set}
+use lib.ListN.{length, take}
 use lib.Seq.{take-suc, take-all, length-take-le}
-use borrow.Author.Needs.{needs}
 use Rattle.table.specs.Tables.{padded}
 use Rattle.table.specs.TableLaws.{set-padded}
 use Rattle.handed.proofs.words_of.Statement.{statement}

@@ -1,22 +1,21 @@
--- What is said of all the words is what is said of those from word i on, until a bad one or the end.
+-- What is said of all the words is what is said of those from word m on, until a bad one or the end.
 -- Assumes nothing.
 use Prim.Native.Nat.{_-_, _<_, _≤_}
 use mathlib.Core.Path.{_≡_, refl, sym, _∙_}
-use mathlib.Core.Bool.{true, false}
 use native.Mathlib.Omega.{arith}
-use lib.ListN.{length, getD, drop}
+use lib.ListN.{length, drop}
 use borrow.Author.Needs.{needs}
 use borrow.Author.Tests.{not-true, not-false}
-use Rattle.rules.specs.Judge.{setOk, eachSetOk}
+use Rattle.rules.specs.Judge.{eachSetOk}
 use Rattle.handed.specs.HeadLaws.{words-bad, words-good, words-end}
 use Rattle.handed.proofs.words_ok.Statement.{statement}
 use Rattle.handed.proofs.words_ok.Tie as tie
 
 abbrev Inv-loop : tie.InvT-loop
-Inv-loop modes follow i₀ i = (i ≤ length follow) × (eachSetOk modes follow ≡ eachSetOk modes (drop i follow))
+Inv-loop modes follow m₀ m = (m ≤ length follow) × (eachSetOk modes follow ≡ eachSetOk modes (drop m follow))
 
 abbrev μ-loop : tie.MeasureT-loop
-μ-loop modes follow i₀ i = length follow - i
+μ-loop modes follow m₀ m = length follow - m
 
 loop-holds : tie.Need-loop-holds Inv-loop μ-loop
 loop-holds c = (omega arith, refl)
@@ -34,12 +33,12 @@ returns : tie.Need-returns Inv-loop μ-loop
 returns c =
     let i = c .before .before .before .before in
     let f = i .before .before .args .follow .now in
-    let m = i .before .before .args .modes in
-    let h : i .loop .i < length f = omega arith in
-    sym (i .loop .inv .1 ∙ words-bad m f (i .loop .i) h (sym (c .before .is-set-of .ensures) ∙ not-true _ (c .if1 .taken)))
+    let n = i .before .before .args .modes in
+    let h : i .loop .m < length f = omega arith in
+    sym (i .loop .inv .1 ∙ words-bad n f (i .loop .m) h (sym (c .before .is-set-of .ensures) ∙ not-true _ (c .if1 .taken)))
 
-add-i : tie.Need-add-i Inv-loop μ-loop
-add-i c = omega arith
+add-m : tie.Need-add-m Inv-loop μ-loop
+add-m c = omega arith
 
 loop-less : tie.Need-loop-less Inv-loop μ-loop
 loop-less c = omega arith
@@ -48,16 +47,16 @@ loop-again : tie.Need-loop-again Inv-loop μ-loop
 loop-again c =
     let i = c .before .before .before .before in
     let f = i .before .before .args .follow .now in
-    let m = i .before .before .args .modes in
-    let h : i .loop .i < length f = omega arith in
-    (omega arith, i .loop .inv .1 ∙ words-good m f (i .loop .i) h (sym (c .before .is-set-of .ensures) ∙ not-false _ (c .if1 .left)))
+    let n = i .before .before .args .modes in
+    let h : i .loop .m < length f = omega arith in
+    (omega arith, i .loop .inv .1 ∙ words-good n f (i .loop .m) h (sym (c .before .is-set-of .ensures) ∙ not-false _ (c .if1 .left)))
 
 returns-2 : tie.Need-returns-2 Inv-loop μ-loop
 returns-2 c =
     let i = c .before in
     let f = i .before .before .args .follow .now in
-    let h : length f ≤ i .loop .i = omega arith in
-    sym (i .loop .inv .1 ∙ words-end (i .before .before .args .modes) f (i .loop .i) h)
+    let h : length f ≤ i .loop .m = omega arith in
+    sym (i .loop .inv .1 ∙ words-end (i .before .before .args .modes) f (i .loop .m) h)
 
 pub words-ok-spec : {M : Type 1} → statement M
 words-ok-spec =
@@ -70,7 +69,7 @@ words-ok-spec =
     shared-slice-read-is-set-of
     is-set-of-requires
     returns
-    add-i
+    add-m
     loop-less
     loop-again
     returns-2)

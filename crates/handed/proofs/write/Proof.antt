@@ -1,38 +1,38 @@
+-- The numbers are judged first; what is accepted is written, and a refusal is the answer as it is.
+-- Assumes nothing.
 use borrow.Author.Needs.{needs}
+use Rattle.table.specs.JudgedLaws.{judged-accepted, judged-refused}
+use Rattle.handed.specs.JudgeLaws.{took-writable, took-written, refused-written}
 use Rattle.handed.proofs.write.Statement.{statement}
 use Rattle.handed.proofs.write.Tie as tie
-use Rattle.handed.proofs.write.Reads as reads
-use Rattle.handed.proofs.write.Lts as lts
-use Rattle.handed.proofs.judge.Reads as judge-reads
-use Rattle.handed.proofs.write_table.Reads as write-table-reads
 
--- src/lib.rt:325:9
 judge-requires : tie.Need-judge-requires
 judge-requires c κs = search needs
 
--- src/lib.rt:328:26
 enum-known-v : tie.Need-enum-known-v
 enum-known-v c = search needs
 
--- src/lib.rt:330:17
 enum-told : tie.Need-enum-told
 enum-told c = search needs
 
--- src/lib.rt:331:13
 write-table-requires : tie.Need-write-table-requires
-write-table-requires c κs = ?
+write-table-requires c κs =
+    let e = c .before .before in
+    took-writable _ (judged-accepted _ _ (e .before .before .judge .ensures) (e .enum-told .given .1))
 
--- src/lib.rt:322:1
 returns : tie.Need-returns
-returns c = ?
+returns c =
+    let v = c .before in
+    refused-written _ (v .v .given .0 .0) _ (judged-refused _ _ _ (v .before .before .judge .ensures) (v .v .given .1))
 
--- src/lib.rt:322:1
 same-length : tie.Need-same-length
 same-length c = search needs
 
--- src/lib.rt:322:1
 returns-2 : tie.Need-returns-2
-returns-2 c = ?
+returns-2 c =
+    let w = c .before .before in
+    let e = w .before .before .before in
+    took-written _ (judged-accepted _ _ (e .before .before .judge .ensures) (e .enum-told .given .1)) _ (w .write-table .ensures)
 
 pub write-spec : {M : Type 1} → statement M
 write-spec =

@@ -1,45 +1,60 @@
+-- Without room the length is told and no byte changes; with room the bytes stand at the front.
+-- Assumes nothing.
+use Prim.Native.Nat.{_<_, _≤_}
+use mathlib.Core.Path.{_≡_, sym, _∙_}
+use native.Mathlib.Omega.{arith}
+use lib.ListN.{length, length-map}
+use denote.Ref.{now}
 use borrow.Author.Needs.{needs}
+use Rattle.rules.specs.Bytes.{tableBytes}
+use Rattle.theory.proofs.Answering.{put-room, put-short}
+use Rattle.table.specs.Tables.{tableOf}
+use Rattle.handed.specs.WritingLaws.{table-size}
 use Rattle.handed.proofs.write_table.Statement.{statement}
 use Rattle.handed.proofs.write_table.Tie as tie
-use Rattle.handed.proofs.write_table.Reads as reads
-use Rattle.handed.proofs.write_table.Lts as lts
-use Rattle.handed.proofs.put_table.Reads as put-table-reads
 
--- src/lib.rt:313:26
 cast-size : tie.Need-cast-size
 cast-size c = search needs
 
--- src/lib.rt:313:21
 mul-size : tie.Need-mul-size
 mul-size c = search needs
 
--- src/lib.rt:313:16
 add-size : tie.Need-add-size
 add-size c = search needs
 
--- src/lib.rt:313:46
 mul-size-2 : tie.Need-mul-size-2
 mul-size-2 c = search needs
 
--- src/lib.rt:313:16
 add-size-2 : tie.Need-add-size-2
 add-size-2 c = search needs
 
--- src/lib.rt:315:9
 returns : tie.Need-returns
-returns c = ?
+returns c =
+    let s = c .before .before .before in
+    let t = s .args .t in
+    let words : length (t .follow) ≡ 32 = simp length-map at (s .good .1 .0 .1 .1 .1 .1 .1 .1 .1 .0 .1 .0 .1) in
+    let ops : length (t .ops) ≡ 32 = simp length-map at (s .good .1 .0 .1 .1 .1 .1 .1 .1 .1 .1 .0 .1 .0 .1) in
+    let size = table-size t words (s .pre .modes) ops (s .pre .count) in
+    let short : length (now (s .args .out)) < length (tableBytes (tableOf t)) = omega (arith, c .if1 .taken) in
+    sym (put-short _ (now (s .args .out)) short ∙ rw size)
 
--- src/lib.rt:317:5
 put-table-requires : tie.Need-put-table-requires
 put-table-requires c κs = search needs
 
--- src/lib.rt:308:1
 same-length : tie.Need-same-length
 same-length c = search needs
 
--- src/lib.rt:308:1
 returns-2 : tie.Need-returns-2
-returns-2 c = ?
+returns-2 c =
+    let p = c .before .before in
+    let i = p .before .before in
+    let s = i .before .before .before in
+    let t = s .args .t in
+    let words : length (t .follow) ≡ 32 = simp length-map at (s .good .1 .0 .1 .1 .1 .1 .1 .1 .1 .0 .1 .0 .1) in
+    let ops : length (t .ops) ≡ 32 = simp length-map at (s .good .1 .0 .1 .1 .1 .1 .1 .1 .1 .1 .0 .1 .0 .1) in
+    let size = table-size t words (s .pre .modes) ops (s .pre .count) in
+    let room : length (tableBytes (tableOf t)) ≤ length (now (s .args .out)) = omega (arith, i .if1 .left) in
+    rw (← size, p .put-table .ensures) (sym (put-room _ (now (s .args .out)) room))
 
 pub write-table-spec : {M : Type 1} → statement M
 write-table-spec =

@@ -1,6 +1,6 @@
--- The first i writers were asked for.
+-- The bound is raised by what the first i operations write into the cell.
 -- Assumes nothing.
-use Prim.Native.Nat.{_-_, _<_, _≤_}
+use Prim.Native.Nat.{_-_, _≤_}
 use mathlib.Core.Path.{_≡_, _∙_}
 use native.Mathlib.Omega.{arith}
 use borrow.Author.Needs.{needs}
@@ -13,33 +13,25 @@ use Rattle.values.specs.WriteLaws.{within-writers}
 use Rattle.values.specs.BoundLaws.{cell-late}
 use Rattle.values.proofs.ask_cell.Statement.{statement}
 use Rattle.values.proofs.ask_cell.Tie as tie
-use Rattle.values.proofs.ask_cell.Reads as reads
-use Rattle.values.proofs.ask_cell.Lts as lts
-use Rattle.values.proofs.ask_writer.Reads as ask-writer-reads
-use Rattle.values.proofs.fresh_sets.Reads as fresh-sets-reads
-use Rattle.values.proofs.written_within.Reads as written-within-reads
 
 abbrev Inv-loop : tie.InvT-loop
-Inv-loop t reached c bound written fresh most₀ i₀ most i = (i ≤ t .count) × (1 ≤ most) × (most ≤ t .len) × Raised bound (Each (WriterFine (tableOf t) reached c) i) most
+Inv-loop t reached c bound written fresh most₀ i₀ most i =
+    (i ≤ t .count) × (1 ≤ most) × (most ≤ t .len) × Raised bound (Each (WriterFine (tableOf t) reached c) i) most
 
 abbrev μ-loop : tie.MeasureT-loop
 μ-loop t reached c bound written fresh most₀ i₀ most i = t .count - i
 
--- src/lib.rt:158:9
 written-within-requires : tie.Need-written-within-requires Inv-loop μ-loop
 written-within-requires c κs = search needs
 
--- src/lib.rt:159:9
 fresh-sets-requires : tie.Need-fresh-sets-requires Inv-loop μ-loop
 fresh-sets-requires c κs = search needs
 
--- src/lib.rt:162:5
 loop-holds : tie.Need-loop-holds Inv-loop μ-loop
 loop-holds c = (omega arith, omega arith, omega arith, each-none _)
 
--- src/lib.rt:163:9
 ask-writer-requires : tie.Need-ask-writer-requires Inv-loop μ-loop
-ask-writer-requires c κs = 
+ask-writer-requires c κs =
     let i = c .before .before in
     let f = i .before in
     let w = f .before in
@@ -53,30 +45,27 @@ ask-writer-requires c κs =
       f .fresh-sets .ensures,
     )
 
--- src/lib.rt:164:9
 add-i : tie.Need-add-i Inv-loop μ-loop
 add-i c = omega (arith, good-few _ (c .before .before .before .before .before .before .pre .0))
 
--- src/lib.rt:162:5
 loop-less : tie.Need-loop-less Inv-loop μ-loop
 loop-less c = omega arith
 
--- src/lib.rt:162:5
 loop-again : tie.Need-loop-again Inv-loop μ-loop
-loop-again c = 
+loop-again c =
     let i = c .before .before .before in
     let s = i .before .before .before in
     let a = s .args in
     let x = c .ask-writer .ensures in (
       omega arith,
       omega (arith, raised-up x),
-      raised-to x (a .t .len) (i .loop .inv .2) (cell-late (tableOf (a .t)) (s .pre .0 .accepted) (a .reached) (a .c) (i .loop .i) (omega (arith, good-count _ (s .pre .0)))),
+      raised-to x (a .t .len) (i .loop .inv .2)
+          (cell-late (tableOf (a .t)) (s .pre .0 .accepted) (a .reached) (a .c) (i .loop .i) (omega (arith, good-count _ (s .pre .0)))),
       each-more (i .loop .inv .3) x,
     )
 
--- src/lib.rt:154:1
 returns : tie.Need-returns Inv-loop μ-loop
-returns c = 
+returns c =
     let i = c .before .before in
     let s = i .before .before .before in
     let e : i .loop .i ≡ nops (tableOf (s .args .t)) = omega (arith, good-count _ (s .pre .0)) in

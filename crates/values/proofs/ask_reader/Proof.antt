@@ -1,21 +1,16 @@
 -- A reader that does not find the value, or finds it in time at the bound, asks for nothing; any other asks for the quotient, rounded up.
 -- Assumes nothing.
-use Prim.Native.Nat.{suc, _+_, _*_, _<_, _≤_}
-use mathlib.Core.Path.{_≡_, sym, _∙_}
-use mathlib.Core.Bool.{true, false}
-use native.Mathlib.Nat.{mul-le-mul}
+use Prim.Native.Nat.{suc, _+_, _*_, _<_}
+use mathlib.Core.Path.{sym, _∙_}
 use native.Mathlib.Numerals.{add-one}
 use native.Mathlib.Omega.{arith}
 use borrow.Author.Needs.{needs}
 use borrow.Author.Tests.{not-true, not-false}
 use Rattle.theory.proofs.Says.{clash-bool}
 use Rattle.values.specs.Bounds.{InTime}
-use Rattle.values.specs.RaiseLaws.{raised-not, raised-as, in-time-on, quotient-asked}
+use Rattle.values.specs.RaiseLaws.{raised-not, raised-as, in-time-on, cycles-fit, quotient-asked}
 use Rattle.values.proofs.ask_reader.Statement.{statement}
 use Rattle.values.proofs.ask_reader.Tie as tie
-use Rattle.values.proofs.ask_reader.Reads as reads
-use Rattle.values.proofs.ask_reader.Lts as lts
-use Rattle.sets.proofs.meets.Reads as meets-reads
 
 meets-requires : tie.Need-meets-requires
 meets-requires c κs = search needs
@@ -27,10 +22,10 @@ add-if2 : tie.Need-add-if2
 add-if2 c = search needs
 
 mul-if2 : tie.Need-mul-if2
-mul-if2 c = let a = c .before .before .args in let p = c .before .before .pre in let h : a .n + 1 ≤ 1001 = omega arith in omega (arith, mul-le-mul h (p .3))
+mul-if2 c = let p = c .before .before .pre in omega (arith, cycles-fit _ _ (p .2) (p .3))
 
 add-if2-2 : tie.Need-add-if2-2
-add-if2-2 c = let a = c .before .before .args in let p = c .before .before .pre in let h : a .n + 1 ≤ 1001 = omega arith in omega (arith, mul-le-mul h (p .3))
+add-if2-2 c = let p = c .before .before .pre in omega (arith, cycles-fit _ _ (p .2) (p .3))
 
 returns-2 : tie.Need-returns-2
 returns-2 c =
@@ -52,10 +47,12 @@ div-result c = search needs
 
 returns-3 : tie.Need-returns-3
 returns-3 c =
-    let x = c .before .before .before in
-    let a = x .args in
+    let m = c .before .before in
+    let a = m .before .args in
     let l : a .start + suc (a .n) * a .bound < a .end = omega arith in
-    rw add-one (raised-as (λ q. (λ y e. y, λ y. y (sym (c .before .before .meets .ensures) ∙ not-false _ (c .before .if1 .left)))) (quotient-asked (a .end) (a .start) (a .n) (a .bound) l))
+    rw add-one
+    (raised-as (λ q. (λ y e. y, λ y. y (sym (m .meets .ensures) ∙ not-false _ (c .before .if1 .left))))
+    (quotient-asked (a .end) (a .start) (a .n) (a .bound) l))
 
 pub ask-reader-spec : {M : Type 1} → statement M
 ask-reader-spec =

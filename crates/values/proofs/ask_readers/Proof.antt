@@ -1,6 +1,6 @@
--- The first j readers were asked.
+-- The bound is raised by the first j readers.
 -- Assumes nothing.
-use Prim.Native.Nat.{_-_, _<_, _≤_}
+use Prim.Native.Nat.{_-_, _≤_}
 use mathlib.Core.Path.{_≡_, subst⁻¹}
 use mathlib.Core.Bool.{true}
 use native.Mathlib.Omega.{arith}
@@ -9,13 +9,10 @@ use Rattle.rules.specs.Sets.{shares}
 use Rattle.rules.specs.Table.{Op, nops}
 use Rattle.table.specs.Tables.{tableOf}
 use Rattle.values.specs.Bounds.{Raised, Each, InTime, ReaderFine}
-use Rattle.values.specs.RaiseLaws.{raised-to, raised-as, each-none, each-more, in-time-late}
+use Rattle.values.specs.RaiseLaws.{raised-to, each-none, each-more, in-time-late}
 use Rattle.table.specs.TableLaws.{good-count, good-few, op-at, good-op}
 use Rattle.values.proofs.ask_readers.Statement.{statement}
 use Rattle.values.proofs.ask_readers.Tie as tie
-use Rattle.values.proofs.ask_readers.Reads as reads
-use Rattle.values.proofs.ask_readers.Lts as lts
-use Rattle.values.proofs.ask_reader.Reads as ask-reader-reads
 
 abbrev Inv-loop : tie.InvT-loop
 Inv-loop modes end n bound t fresh most₀ j₀ most j =
@@ -59,15 +56,16 @@ loop-again c =
     let a = s .args in
     let j = i .loop .j in
     let x : Raised (i .loop .most) (ReaderFine (tableOf (a .t1)) (a .t2) (a .modes) (a .end) (a .n) j) (c .ask-reader .result)
-        = subst⁻¹
-        (λ (o : Op). Raised (i .loop .most) (λ q. shares (a .modes) (getD (a .t2) j 0) ≡ true → InTime (a .end) (o .start) (a .n) q) (c .ask-reader .result))
-        (op-at (a .t1) j (omega arith))
-        (c .ask-reader .ensures)
-    in
-    (omega arith,
-    i .loop .inv .1,
-    raised-to x (a .t1 .len) (i .loop .inv .2) (λ e. in-time-late (a .end) _ (a .n) (a .t1 .len) (s .pre .1)),
-    each-more (i .loop .inv .3) x)
+    = subst⁻¹
+    (λ (o : Op). Raised (i .loop .most) (λ q. shares (a .modes) (getD (a .t2) j 0) ≡ true → InTime (a .end) (o .start) (a .n) q) (c .ask-reader .result))
+    (op-at (a .t1) j (omega arith))
+    (c .ask-reader .ensures)
+    in (
+      omega arith,
+      i .loop .inv .1,
+      raised-to x (a .t1 .len) (i .loop .inv .2) (λ e. in-time-late (a .end) _ (a .n) (a .t1 .len) (s .pre .1)),
+      each-more (i .loop .inv .3) x,
+    )
 
 returns : tie.Need-returns Inv-loop μ-loop
 returns c =

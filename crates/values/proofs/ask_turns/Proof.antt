@@ -1,81 +1,69 @@
 -- The bound stands for the first n distances; the search ends where no distance that is left asks for more.
 -- Assumes nothing.
-use Prim.Native.Nat.{_+_, _-_, _*_, _<_, _≤_}
-use mathlib.Core.Path.{_≡_, sym, _∙_}
-use native.Mathlib.Nat.{mul-le-mul, mul-le-mul-left}
+use Prim.Native.Nat.{_+_, _-_, _≤_}
+use mathlib.Core.Path.{_≡_, _∙_}
+use native.Mathlib.Nat.{mul-le-mul-left}
 use native.Mathlib.Omega.{arith}
 use borrow.Author.Needs.{needs}
 use Rattle.rules.specs.Table.{nops}
-use Rattle.theory.specs.Tests.{without, step}
+use Rattle.theory.specs.Tests.{step}
 use Rattle.table.specs.Tables.{tableOf}
 use Rattle.turns.specs.TurnLaws.{good-step}
 use Rattle.values.specs.Bounds.{Raised, Each, ReaderFine}
-use Rattle.values.specs.RaiseLaws.{raised-up, raised-to, in-time-late}
+use Rattle.values.specs.RaiseLaws.{raised-up, raised-to, cycles-fit, in-time-late}
 use Rattle.values.specs.CarryLaws.{Carried, carried-none, carried-more, carried-far, carried-seen}
 use Rattle.values.proofs.ask_turns.Statement.{statement}
 use Rattle.values.proofs.ask_turns.Tie as tie
-use Rattle.values.proofs.ask_turns.Reads as reads
-use Rattle.values.proofs.ask_turns.Lts as lts
-use Rattle.sets.proofs.step.Reads as step-reads
-use Rattle.sets.proofs.without.Reads as without-reads
-use Rattle.values.proofs.ask_readers.Reads as ask-readers-reads
 
 abbrev Inv-loop : tie.InvT-loop
-Inv-loop t fresh written from end bound follow modes₀ seen₀ most₀ n₀ modes seen most n = (n ≤ end) × (1 ≤ most) × (most ≤ t .len) × Carried (tableOf t) fresh written end from bound n modes seen most
+Inv-loop t fresh written from end bound follow modes₀ seen₀ most₀ n₀ modes seen most n =
+    (n ≤ end) × (1 ≤ most) × (most ≤ t .len) × Carried (tableOf t) fresh written end from bound n modes seen most
 
 abbrev μ-loop : tie.MeasureT-loop
 μ-loop t fresh written from end bound follow modes₀ seen₀ most₀ n₀ modes seen most n = end - n
 
--- src/lib.rt:124:5
 loop-holds : tie.Need-loop-holds Inv-loop μ-loop
 loop-holds c = (omega arith, omega arith, omega arith, carried-none _ _ _ _ _ _)
 
--- src/lib.rt:124:12
 add-loop : tie.Need-add-loop Inv-loop μ-loop
 add-loop c = omega arith
 
--- src/lib.rt:124:11
 mul-loop : tie.Need-mul-loop Inv-loop μ-loop
-mul-loop c = let h : c .loop .n + 1 ≤ 1001 = omega arith in let l : c .loop .most ≤ 1000 = omega arith in omega (arith, mul-le-mul h l)
+mul-loop c = omega (arith, cycles-fit (c .loop .n) (c .loop .most) (omega arith) (omega arith))
 
--- src/lib.rt:125:13
 step-requires : tie.Need-step-requires Inv-loop μ-loop
 step-requires c κs = search needs
 
--- src/lib.rt:126:12
 without-requires : tie.Need-without-requires Inv-loop μ-loop
 without-requires c κs = search needs
 
--- src/lib.rt:127:13
 returns : tie.Need-returns Inv-loop μ-loop
-returns c = 
+returns c =
     let i = c .before .before .before .before in
     let s = i .before .before in
     let t = s .args .t in
     let e : c .before .before .step .result ≡ step (tableOf t .follow) (i .loop .modes)
-        = c .before .before .step .ensures ∙ good-step t (s .pre .0) (i .loop .modes)
+    = c .before .before .step .ensures ∙ good-step t (s .pre .0) (i .loop .modes)
     in
     carried-seen _ _ _ _ _ _ _ _ _ _ (i .loop .inv .3) (rw (c .before .without .ensures, e) at (c .if1 .taken))
 
--- src/lib.rt:129:9
 ask-readers-requires : tie.Need-ask-readers-requires Inv-loop μ-loop
-ask-readers-requires c κs = let i = c .before .before .before .before in let s = i .before .before in (s .pre .0, s .pre .1, omega arith, i .loop .inv .2)
+ask-readers-requires c κs =
+    let i = c .before .before .before .before in
+    let s = i .before .before in
+    (s .pre .0, s .pre .1, omega arith, i .loop .inv .2)
 
--- src/lib.rt:131:9
 without-requires-2 : tie.Need-without-requires-2 Inv-loop μ-loop
 without-requires-2 c κs = search needs
 
--- src/lib.rt:132:9
 add-n : tie.Need-add-n Inv-loop μ-loop
 add-n c = omega arith
 
--- src/lib.rt:124:5
 loop-less : tie.Need-loop-less Inv-loop μ-loop
 loop-less c = let i = c .before .before .before .before .before .before .loop in omega (arith, mul-le-mul-left (i .n + 1) (i .inv .1))
 
--- src/lib.rt:124:5
 loop-again : tie.Need-loop-again Inv-loop μ-loop
-loop-again c = 
+loop-again c =
     let r = c .before in
     let x = r .before .before .before in
     let i = x .before .before in
@@ -84,7 +72,7 @@ loop-again c =
     let next = step (tableOf (a .t) .follow) (i .loop .modes) in
     let e : x .step .result ≡ next = x .step .ensures ∙ good-step (a .t) (s .pre .0) (i .loop .modes) in
     let y : Raised (i .loop .most) (Each (ReaderFine (tableOf (a .t)) (a .fresh) next (a .end) (i .loop .n)) (nops (tableOf (a .t)))) (r .ask-readers .result)
-        = rw e at (r .ask-readers .ensures)
+    = rw e at (r .ask-readers .ensures)
     in (
       omega (arith, mul-le-mul-left (i .loop .n + 1) (i .loop .inv .1)),
       omega (arith, raised-up y),
@@ -92,7 +80,6 @@ loop-again c =
       rw (c .without2 .ensures, e) (carried-more _ _ _ _ _ _ _ _ _ _ (i .loop .inv .3) (r .ask-readers .result) y),
     )
 
--- src/lib.rt:115:1
 returns-2 : tie.Need-returns-2 Inv-loop μ-loop
 returns-2 c = let i = c .before in carried-far _ _ _ _ _ _ _ _ _ _ (i .loop .inv .3) (omega arith)
 

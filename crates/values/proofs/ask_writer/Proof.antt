@@ -1,8 +1,7 @@
 -- An operation that does not write the cell asks for nothing; any other is asked for at every distance, from the reached modes in which it is
 -- the last to write the cell.
 -- Assumes nothing.
-use Prim.Native.Nat.{_≤_}
-use mathlib.Core.Path.{_≡_, sym, ap, _∙_}
+use mathlib.Core.Path.{_≡_, sym, _∙_}
 use mathlib.Core.Bool.{true, false}
 use native.Mathlib.Omega.{arith}
 use borrow.Author.Needs.{needs}
@@ -18,13 +17,6 @@ use Rattle.table.specs.TableLaws.{good-few, op-at, good-op}
 use Rattle.values.specs.WriteLaws.{within-last}
 use Rattle.values.proofs.ask_writer.Statement.{statement}
 use Rattle.values.proofs.ask_writer.Tie as tie
-use Rattle.values.proofs.ask_writer.Reads as reads
-use Rattle.values.proofs.ask_writer.Lts as lts
-use Rattle.sets.proofs.member.Reads as member-reads
-use Rattle.sets.proofs.without.Reads as without-reads
-use Rattle.values.proofs.ask_turns.Reads as ask-turns-reads
-use Rattle.values.proofs.end_of.Reads as end-of-reads
-use Rattle.values.proofs.written_within.Reads as written-within-reads
 
 mul-o : tie.Need-mul-o
 mul-o c = omega (arith, good-few _ (c .pre .0))
@@ -41,7 +33,7 @@ returns c =
     let s = c .before .before .before in
     let a = s .args in
     let e : has (op (tableOf (a .t1)) (a .i) .writes) (a .c) ≡ false
-        = rw (op-at (a .t1) (a .i) (s .pre .2)) (sym (c .before .member .ensures) ∙ not-true _ (c .if1 .taken))
+    = rw (op-at (a .t1) (a .i) (s .pre .2)) (sym (c .before .member .ensures) ∙ not-true _ (c .if1 .taken))
     in
     raised-not _ (λ q h w. clash-bool w e)
 
@@ -75,7 +67,7 @@ returns-2 c =
     let w : has (op T (a .i) .writes) (a .c) ≡ true = rw o (sym (m .member .ensures) ∙ not-false _ (n .before .if1 .left)) in
     let e : n .end-of .result ≡ endOf (op T (a .i)) = rw o (n .end-of .ensures) in
     let d : l .without .result ≡ lastIn T (a .c) (a .i)
-        = rw (← within-last T (s .pre .0 .accepted) (a .c) (a .i), o, ← n .end-of .ensures, ← y .written-within .ensures) (l .without .ensures)
+    = rw (← within-last T (s .pre .0 .accepted) (a .c) (a .i), o, ← n .end-of .ensures, ← y .written-within .ensures) (l .without .ensures)
     in
     raised-as (λ q. (λ x _. x, λ x. x w)) (rw (s .pre .5, s .pre .6, e, d) at (c .ask-turns .ensures))
 

@@ -1,12 +1,8 @@
 -- Of the modes of a reader those are left in which nothing is written by its start.
 -- Assumes nothing.
-use Prim.Native.Nat.{_<_}
-use mathlib.Core.Path.{_≡_, sym, _∙_}
-use mathlib.Core.Bool.{true, false}
 use native.Mathlib.Omega.{arith}
 use borrow.Author.Needs.{needs}
 use borrow.Author.Tests.{not-true, not-false}
-use Rattle.rules.specs.Sets.{has}
 use Rattle.table.specs.Tables.{tableOf}
 use Rattle.values.specs.Bounds.{freshRead}
 use Rattle.table.specs.TableLaws.{good-few, op-at}
@@ -40,7 +36,14 @@ unfolding freshRead
 returns-2 c =
     let m = c .before .before .before in
     let s = m .before .before in
-    rw (← within-fresh (tableOf (s .args .t1)) (s .pre .0 .accepted) (s .args .c) (s .args .j), op-at (s .args .t1) (s .args .j) (s .pre .2), ← m .member .ensures, not-false (m .member .result) (c .before .before .if1 .left), ← c .before .written-within .ensures) (c .without .ensures)
+    rw (
+      ← within-fresh (tableOf (s .args .t1)) (s .pre .0 .accepted) (s .args .c) (s .args .j),
+      op-at (s .args .t1) (s .args .j) (s .pre .2),
+      ← m .member .ensures,
+      not-false (m .member .result) (c .before .before .if1 .left),
+      ← c .before .written-within .ensures,
+    )
+    (c .without .ensures)
 
 pub fresh-in-spec : {M : Type 1} → statement M
 fresh-in-spec =

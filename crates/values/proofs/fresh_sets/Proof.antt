@@ -1,10 +1,9 @@
 -- The sets of the first j operations are there, and zeros behind them.
 -- Assumes nothing.
-use Prim.Native.Nat.{_-_, _<_, _≤_}
-use mathlib.Core.Path.{_≡_, refl, sym, ap, _∙_}
+use Prim.Native.Nat.{_-_, _≤_}
+use mathlib.Core.Path.{_≡_, refl, sym}
 use native.Mathlib.Numerals.{add-one}
 use native.Mathlib.Omega.{arith}
-use lib.ListN.{length}
 use Rattle.rules.specs.Table.{nops}
 use Rattle.table.specs.Tables.{tableOf, padded}
 use Rattle.table.specs.TableLaws.{set-padded}
@@ -14,9 +13,6 @@ use Rattle.values.specs.Bounds.{freshRead, freshSets}
 use Rattle.table.specs.TableLaws.{good-count, good-few}
 use Rattle.values.proofs.fresh_sets.Statement.{statement}
 use Rattle.values.proofs.fresh_sets.Tie as tie
-use Rattle.values.proofs.fresh_sets.Reads as reads
-use Rattle.values.proofs.fresh_sets.Lts as lts
-use Rattle.values.proofs.fresh_in.Reads as fresh-in-reads
 
 abbrev Inv-loop : tie.InvT-loop
 Inv-loop t c out₀ j₀ out j = (j ≤ t .count) × (t .count ≤ 32) × (out ≡ padded 32 0 (tab (freshRead (tableOf t) c) j))

@@ -1,6 +1,6 @@
--- The first c cells were asked for.
+-- The bound is raised by the first c cells; raised by all of them it is the bound of the values.
 -- Assumes nothing.
-use Prim.Native.Nat.{_-_, _<_, _≤_}
+use Prim.Native.Nat.{_-_, _≤_}
 use mathlib.Core.Path.{_≡_}
 use native.Mathlib.Omega.{arith}
 use Rattle.table.specs.Tables.{tableOf}
@@ -9,38 +9,31 @@ use Rattle.values.specs.RaiseLaws.{raised-up, raised-to, each-none, each
 use Rattle.values.specs.BoundLaws.{cell-late, raised-bound}
 use Rattle.values.proofs.values_bound.Statement.{statement}
 use Rattle.values.proofs.values_bound.Tie as tie
-use Rattle.values.proofs.values_bound.Reads as reads
-use Rattle.values.proofs.values_bound.Lts as lts
-use Rattle.values.proofs.ask_cell.Reads as ask-cell-reads
 
 abbrev Inv-loop : tie.InvT-loop
-Inv-loop t reached bound₀ c₀ bound c = (c ≤ t .cells) × (1 ≤ bound) × (bound ≤ t .len) × Raised 1 (Each (CellFine (tableOf t) reached) c) bound
+Inv-loop t reached bound₀ c₀ bound c =
+    (c ≤ t .cells) × (1 ≤ bound) × (bound ≤ t .len) × Raised 1 (Each (CellFine (tableOf t) reached) c) bound
 
 abbrev μ-loop : tie.MeasureT-loop
 μ-loop t reached bound₀ c₀ bound c = t .cells - c
 
--- src/lib.rt:176:5
 loop-holds : tie.Need-loop-holds Inv-loop μ-loop
 loop-holds c = (omega arith, omega arith, c .pre .accepted .len-low, each-none _)
 
--- src/lib.rt:177:9
 ask-cell-requires : tie.Need-ask-cell-requires Inv-loop μ-loop
-ask-cell-requires c κs = 
+ask-cell-requires c κs =
     let i = c .before .before in
     let s = i .before in
     (s .pre, omega (arith, s .pre .accepted .cells-high), i .loop .inv .1, i .loop .inv .2)
 
--- src/lib.rt:178:9
 add-c : tie.Need-add-c Inv-loop μ-loop
 add-c c = omega arith
 
--- src/lib.rt:176:5
 loop-less : tie.Need-loop-less Inv-loop μ-loop
 loop-less c = omega arith
 
--- src/lib.rt:176:5
 loop-again : tie.Need-loop-again Inv-loop μ-loop
-loop-again c = 
+loop-again c =
     let i = c .before .before .before in
     let s = i .before in
     let a = s .args in
@@ -51,9 +44,8 @@ loop-again c =
       each-more (i .loop .inv .3) x,
     )
 
--- src/lib.rt:170:1
 returns : tie.Need-returns Inv-loop μ-loop
-returns c = 
+returns c =
     let i = c .before .before in
     let s = i .before in
     let e : i .loop .c ≡ s .args .t .cells = omega arith in

@@ -1,7 +1,7 @@
 -- The modes of the first k operations are there.
 -- Assumes nothing.
-use Prim.Native.Nat.{_-_, _<_, _≤_}
-use mathlib.Core.Path.{_≡_, refl, sym, _∙_}
+use Prim.Native.Nat.{_-_, _≤_}
+use mathlib.Core.Path.{_≡_, refl, _∙_}
 use native.Mathlib.Omega.{arith}
 use lib.ListN.{take}
 use Rattle.theory.specs.Tests.{modesOf}
@@ -13,7 +13,8 @@ use Rattle.values.proofs.written_within.Statement.{statement}
 use Rattle.values.proofs.written_within.Tie as tie
 
 abbrev Inv-loop : tie.InvT-loop
-Inv-loop c after by t all₀ k₀ all k = (k ≤ t .count) × (t .count ≤ 32) × (all ≡ modesOf (writesWithin c after by) (take k (tableOf t .ops)))
+Inv-loop c after by t all₀ k₀ all k =
+    (k ≤ t .count) × (t .count ≤ 32) × (all ≡ modesOf (writesWithin c after by) (take k (tableOf t .ops)))
 
 abbrev μ-loop : tie.MeasureT-loop
 μ-loop c after by t all₀ k₀ all k = t .count - k

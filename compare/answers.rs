@@ -1,0 +1,156 @@
+//! The whole public answers (document 01, "Runs and right periods", "Bytes",
+//! "Numbers of refusal", "The program").
+
+use crate::judge::{demand, judge, number_in, push_field, push_number, put};
+use crate::judge::{Fields, Refusal, Table, ASK, RANGE};
+use crate::runs::{period, right};
+
+/// "reads at most 4096 bytes of standard input and ignores more"
+pub const MOST_INPUT: usize = 4096;
+
+/// One row of a folded table.
+#[derive(Clone, Copy, Debug, PartialEq, Eq)]
+pub struct Row {
+    pub folded: u64,
+    pub fst: u64,
+}
+
+/// A reply: the period and a row for each operation.
+#[derive(Clone, Debug, PartialEq, Eq)]
+pub struct Reply {
+    pub period: u64,
+    pub rows: Vec<Row>,
+}
+
+/// "fst is the whole part of t / q, and the folded start is t − fst·q"
+fn row_of(start: u64, q: u64) -> Row {
+    let fst = start / q;
+    Row {
+        folded: start - fst * q,
+        fst,
+    }
+}
+
+/// The table folded onto its period.
+fn fold(table: &Table) -> Reply {
+    let q = period(table);
+    Reply {
+        period: q,
+        rows: table.ops.iter().map(|op| row_of(op.start, q)).collect(),
+    }
+}
+
+/// "Reply fields: 11, length 2: period. 12, length 4, for each operation in table
+/// order: folded start, fst (16 bits each)."
+pub fn reply_bytes(reply: &Reply) -> Vec<u8> {
+    let mut out = Vec::new();
+    let mut value = Vec::new();
+    push_number(&mut value, reply.period, 2);
+    push_field(&mut out, 0x11, &value);
+    for row in &reply.rows {
+        let mut value = Vec::new();
+        push_number(&mut value, row.folded, 2);
+        push_number(&mut value, row.fst, 2);
+        push_field(&mut out, 0x12, &value);
+    }
+    out
+}
+
+/// The reply of a table, then ROOM; the number of bytes written.
+pub fn plan(bytes: &[u8], out: &mut [u8]) -> Result<usize, Refusal> {
+    let table = judge(bytes)?;
+    put(&reply_bytes(&fold(&table)), out)
+}
+
+/// "In a reply read for unfolding the period is 1 to 1000".
+fn read_period(fields: &mut Fields) -> Result<u64, Refusal> {
+    let at = fields.offset();
+    let q = number_in(fields.field(0x11, 2, 0)?);
+    demand(1 <= q && q <= 1000, RANGE, at)?;
+    Ok(q)
+}
+
+/// "each folded start is below it, each unfolded start is at most 999"; gives the
+/// unfolded start.
+fn read_row(fields: &mut Fields, q: u64, before: usize) -> Result<u64, Refusal> {
+    let at = fields.offset();
+    let value = fields.field(0x12, 4, before)?;
+    let (folded, fst) = (number_in(&value[0..2]), number_in(&value[2..4]));
+    let start = fst * q + folded;
+    demand(folded < q && start <= 999, RANGE, at)?;
+    Ok(start)
+}
+
+/// "and there are 1 to 32 operations": all unfolded starts in order.
+fn read_starts(bytes: &[u8]) -> Result<Vec<u64>, Refusal> {
+    let mut fields = Fields::new(bytes);
+    let q = read_period(&mut fields)?;
+    let mut starts = Vec::new();
+    loop {
+        starts.push(read_row(&mut fields, q, starts.len())?);
+        if fields.at_end() {
+            return Ok(starts);
+        }
+    }
+}
+
+/// "Unfolding writes the starts in order, 2 bytes each."
+pub fn unfold(reply: &[u8], out: &mut [u8]) -> Result<usize, Refusal> {
+    let starts = read_starts(reply)?;
+    let mut bytes = Vec::new();
+    for start in starts {
+        push_number(&mut bytes, start, 2);
+    }
+    put(&bytes, out)
+}
+
+/// "for the margin the order is i, j, n, q, places 0 to 3"; "n is 1 to 1000 and q
+/// is 1 to p".
+fn judge_margin_question(table: &Table, i: u64, j: u64, n: u64, q: u64) -> Result<(), Refusal> {
+    let ops = table.ops.len() as u64;
+    demand(i < ops, ASK, 0)?;
+    demand(j < ops, ASK, 1)?;
+    demand(1 <= n && n <= 1000, ASK, 2)?;
+    demand(1 <= q && q <= table.len, ASK, 3)
+}
+
+/// "The margin of operations i, j at distance n and period q is n·q − (t + d of
+/// i, less t of j). It is signed".
+pub fn margin(bytes: &[u8], i: u64, j: u64, n: u64, q: u64) -> Result<i64, Refusal> {
+    let table = judge(bytes)?;
+    judge_margin_question(&table, i, j, n, q)?;
+    let end_of_i = table.ops[i as usize].end() as i64;
+    let start_of_j = table.ops[j as usize].start as i64;
+    Ok(n as i64 * q as i64 - (end_of_i - start_of_j))
+}
+
+/// "for "is q right", q is place 0"
+pub fn is_right(bytes: &[u8], q: u64) -> Result<bool, Refusal> {
+    let table = judge(bytes)?;
+    demand(1 <= q && q <= table.len, ASK, 0)?;
+    Ok(right(&table, q))
+}
+
+/// "one line `refused n a b`"
+pub fn refusal_text(refusal: &Refusal) -> String {
+    format!("refused {} {} {}\n", refusal.number, refusal.a, refusal.b)
+}
+
+/// "`period q`, then `op i start s fst f` for each operation in order"
+fn reply_text(reply: &Reply) -> String {
+    let mut text = format!("period {}\n", reply.period);
+    for (i, row) in reply.rows.iter().enumerate() {
+        text.push_str(&format!("op {} start {} fst {}\n", i, row.folded, row.fst));
+    }
+    text
+}
+
+/// What `fold` prints for these bytes of standard input. Every line, the last one
+/// too, ends with a line feed.
+pub fn text(bytes: &[u8]) -> String {
+    let kept = &bytes[..bytes.len().min(MOST_INPUT)];
+    match judge(kept) {
+        Ok(table) => reply_text(&fold(&table)),
+        Err(refusal) => refusal_text(&refusal),
+    }
+}

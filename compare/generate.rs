@@ -1,0 +1,969 @@
+//! Seeded inputs for comparisons: whole tables, damaged tables, replies, tables
+//! as numbers, questions. The same seed gives the same inputs.
+
+use crate::answers::{plan, reply_bytes, Reply, Row};
+use crate::judge::{bytes_of, judge_pairs, number_in, numbers_of, Numbers, Op, Table};
+
+// ---- the seed -----------------------------------------------------------
+
+/// The state of the drawing (splitmix64).
+#[derive(Clone)]
+pub struct Seed {
+    state: u64,
+}
+
+impl Seed {
+    pub fn new(seed: u64) -> Seed {
+        Seed { state: seed }
+    }
+
+    /// The next 64 bits.
+    pub fn draw(&mut self) -> u64 {
+        self.state = self.state.wrapping_add(0x9e37_79b9_7f4a_7c15);
+        let mut z = self.state;
+        z = (z ^ (z >> 30)).wrapping_mul(0xbf58_476d_1ce4_e5b9);
+        z = (z ^ (z >> 27)).wrapping_mul(0x94d0_49bb_1331_11eb);
+        z ^ (z >> 31)
+    }
+
+    /// A number from 0 to count - 1.
+    pub fn below(&mut self, count: u64) -> u64 {
+        self.draw() % count
+    }
+
+    /// A number from low to high, both included.
+    pub fn between(&mut self, low: u64, high: u64) -> u64 {
+        low + self.below(high - low + 1)
+    }
+
+    /// True once in so many times.
+    pub fn once_in(&mut self, times: u64) -> bool {
+        self.below(times) == 0
+    }
+
+    /// One of the numbers.
+    pub fn one_of(&mut self, numbers: &[u64]) -> u64 {
+        numbers[self.below(numbers.len() as u64) as usize]
+    }
+
+    /// A number from low to high, often one of the two.
+    fn often_edge(&mut self, low: u64, high: u64) -> u64 {
+        match self.below(6) {
+            0 => low,
+            1 => high,
+            _ => self.between(low, high),
+        }
+    }
+}
+
+// ---- shapes and sets ----------------------------------------------------
+
+/// The counts of a table that is to be drawn, and its longest duration.
+pub struct Shape {
+    p: u64,
+    boards: u64,
+    cells: u64,
+    modes: u64,
+    ops: u64,
+    longest: u64,
+}
+
+/// For tables whose runs can be laid out one by one: mostly up to four operations,
+/// sometimes two more.
+fn tiny_shape(seed: &mut Seed) -> Shape {
+    let p = seed.between(1, 8).max(seed.between(1, 8));
+    let more = if seed.once_in(6) { 2 } else { 0 };
+    Shape {
+        p,
+        boards: seed.between(1, 4),
+        cells: seed.between(0, 3),
+        modes: seed.between(1, 3),
+        ops: seed.between(1, 4) + more,
+        longest: seed.between(1, p).min(seed.between(1, p)),
+    }
+}
+
+fn small_shape(seed: &mut Seed) -> Shape {
+    let p = seed.often_edge(1, 16);
+    Shape {
+        p,
+        boards: seed.often_edge(1, 5),
+        cells: seed.often_edge(0, 4),
+        modes: seed.often_edge(1, 4),
+        ops: seed.often_edge(1, 7),
+        longest: seed.between(1, p),
+    }
+}
+
+fn large_shape(seed: &mut Seed) -> Shape {
+    let p = seed.often_edge(20, 1000);
+    Shape {
+        p,
+        boards: seed.often_edge(1, 16),
+        cells: seed.often_edge(0, 32),
+        modes: seed.often_edge(1, 32),
+        ops: seed.often_edge(1, 32),
+        longest: 1 + p / seed.one_of(&[2, 8, 32, 128]),
+    }
+}
+
+/// Every count at its highest.
+fn largest_shape(seed: &mut Seed) -> Shape {
+    let longest = seed.one_of(&[5, 20, 60, 200]);
+    Shape {
+        p: 1000,
+        boards: 16,
+        cells: 32,
+        modes: 32,
+        ops: 32,
+        longest,
+    }
+}
+
+/// The set of all members below the count.
+fn full_set(count: u64) -> u64 {
+    (1 << count) - 1
+}
+
+/// A set of at most so many members; empty where the count is 0.
+fn some_set(seed: &mut Seed, count: u64, most: u64) -> u64 {
+    let draws = if count == 0 { 0 } else { seed.between(0, most) };
+    (0..draws).fold(0, |set, _| set | 1 << seed.below(count))
+}
+
+/// The same, with at least one member.
+fn filled_set(seed: &mut Seed, count: u64, most: u64) -> u64 {
+    some_set(seed, count, most - 1) | 1 << seed.below(count)
+}
+
+/// All modes, one mode, or a few.
+fn mode_set(seed: &mut Seed, modes: u64) -> u64 {
+    match seed.below(4) {
+        0 => full_set(modes),
+        1 => 1 << seed.below(modes),
+        2 => filled_set(seed, modes, 3),
+        _ => (seed.draw() & full_set(modes)) | 1 << seed.below(modes),
+    }
+}
+
+/// Followers of all modes: a ring, itself, every turn, few turns or many.
+fn followers(seed: &mut Seed, modes: u64) -> Vec<u64> {
+    let kind = seed.below(6);
+    let mut all = Vec::new();
+    for mode in 0..modes {
+        all.push(match kind {
+            0 => 1 << ((mode + 1) % modes),
+            1 => 1 << mode,
+            2 => full_set(modes),
+            3 => 1 << seed.below(modes),
+            4 => filled_set(seed, modes, 2),
+            _ => mode_set(seed, modes),
+        });
+    }
+    all
+}
+
+// ---- tables -------------------------------------------------------------
+
+/// An operation whose numbers and sets are in range.
+fn some_op(seed: &mut Seed, shape: &Shape) -> Op {
+    let dur = seed.between(1, shape.longest.min(shape.p));
+    Op {
+        start: seed.often_edge(0, shape.p - dur),
+        dur,
+        boards: filled_set(seed, shape.boards, 2),
+        reads: some_set(seed, shape.cells, 3),
+        writes: some_set(seed, shape.cells, 2),
+        modes: mode_set(seed, shape.modes),
+    }
+}
+
+/// A table in range; it may have clashes and races.
+fn some_table(seed: &mut Seed, shape: &Shape) -> Table {
+    Table {
+        len: shape.p,
+        boards: shape.boards,
+        cells: shape.cells,
+        modes: shape.modes,
+        first: filled_set(seed, shape.modes, 2),
+        follow: followers(seed, shape.modes),
+        ops: (0..shape.ops).map(|_| some_op(seed, shape)).collect(),
+    }
+}
+
+/// Change one thing of an operation that clashes or races.
+fn mend_op(seed: &mut Seed, shape: &Shape, op: &mut Op) {
+    match seed.below(8) {
+        0 => op.dur = 1,
+        1 => op.writes = 0,
+        2 => op.reads = some_set(seed, shape.cells, 1),
+        3 => op.boards = 1 << seed.below(shape.boards),
+        4 => op.modes = 1 << seed.below(shape.modes),
+        5 => op.dur = 1 + op.dur / 2,
+        _ => *op = some_op(seed, shape),
+    }
+    op.dur = op.dur.min(shape.p - op.start);
+}
+
+/// Mend until no pair clashes or races; when that takes too long, leave
+/// operations out.
+fn mend(seed: &mut Seed, shape: &Shape, table: &mut Table) {
+    let mut tries = 0;
+    while let Err(bad) = judge_pairs(table) {
+        let which = if seed.once_in(2) { bad.a } else { bad.b };
+        let one = which as usize;
+        if tries < 2000 {
+            mend_op(seed, shape, &mut table.ops[one]);
+        } else {
+            table.ops.remove(one);
+        }
+        tries += 1;
+    }
+}
+
+/// A table that is accepted.
+fn good_table(seed: &mut Seed, shape: &Shape) -> Table {
+    let mut table = some_table(seed, shape);
+    mend(seed, shape, &mut table);
+    table
+}
+
+/// One follower for each mode, a ring or any; sometimes a second one.
+fn few_followers(seed: &mut Seed, modes: u64) -> Vec<u64> {
+    let ring = !seed.once_in(3);
+    let mut all = Vec::new();
+    for mode in 0..modes {
+        let next = if ring {
+            (mode + 1) % modes
+        } else {
+            seed.below(modes)
+        };
+        let more = if seed.once_in(5) {
+            1 << seed.below(modes)
+        } else {
+            0
+        };
+        all.push(1 << next | more);
+    }
+    all
+}
+
+/// An operation on the next board, in few modes, that writes or reads one cell;
+/// often it writes at the end of the table or reads at its beginning.
+fn carrying_op(seed: &mut Seed, shape: &Shape, place: u64) -> Op {
+    let mut op = some_op(seed, shape);
+    op.boards = 1 << (place % shape.boards);
+    op.modes = filled_set(seed, shape.modes, 2);
+    let cell = some_set(seed, shape.cells.min(2), 1);
+    let last_start = shape.p - op.dur;
+    match seed.below(6) {
+        0 => (op.reads, op.writes) = (0, cell),
+        1 => (op.reads, op.writes) = (cell, 0),
+        2 => (op.reads, op.writes) = (cell, some_set(seed, shape.cells, 1)),
+        3 => (op.reads, op.writes, op.start) = (0, cell, 0),
+        4 => (op.reads, op.writes, op.start) = (0, cell, last_start),
+        _ => (op.reads, op.writes, op.start) = (cell, 0, seed.below(2).min(last_start)),
+    }
+    op
+}
+
+/// An accepted table with few turns and few operations for each board and mode,
+/// so that values carried over several cycles decide.
+fn carrying_table(seed: &mut Seed, shape: &Shape) -> Table {
+    let mut table = some_table(seed, shape);
+    table.follow = few_followers(seed, shape.modes);
+    table.ops = (0..shape.ops)
+        .map(|place| carrying_op(seed, shape, place))
+        .collect();
+    mend(seed, shape, &mut table);
+    table
+}
+
+/// Accepted, of one of the two kinds.
+fn either_table(seed: &mut Seed, shape: &Shape) -> Table {
+    if seed.once_in(3) {
+        carrying_table(seed, shape)
+    } else {
+        good_table(seed, shape)
+    }
+}
+
+/// Accepted, so small that its runs can be laid out one by one.
+pub fn tiny(seed: &mut Seed) -> Table {
+    let mut shape = tiny_shape(seed);
+    if seed.once_in(2) {
+        return good_table(seed, &shape);
+    }
+    shape.modes = seed.between(2, 4);
+    shape.boards = shape.ops;
+    shape.cells = seed.between(1, 2);
+    carrying_table(seed, &shape)
+}
+
+/// Accepted and small.
+pub fn small(seed: &mut Seed) -> Table {
+    let shape = small_shape(seed);
+    either_table(seed, &shape)
+}
+
+/// Accepted, up to the highest counts.
+pub fn large(seed: &mut Seed) -> Table {
+    let shape = large_shape(seed);
+    either_table(seed, &shape)
+}
+
+/// Accepted, every count at its highest.
+pub fn largest(seed: &mut Seed) -> Table {
+    let shape = largest_shape(seed);
+    either_table(seed, &shape)
+}
+
+/// Accepted, mostly small.
+fn good(seed: &mut Seed) -> Table {
+    match seed.below(12) {
+        0 | 1 => large(seed),
+        2 => largest(seed),
+        _ => small(seed),
+    }
+}
+
+/// Whole tables: most are accepted, some clash or race.
+pub fn whole(seed: &mut Seed) -> Vec<u8> {
+    if seed.once_in(5) {
+        let shape = small_shape(seed);
+        return bytes_of(&some_table(seed, &shape));
+    }
+    bytes_of(&good(seed))
+}
+
+/// A table in which many pairs share a board and overlap.
+fn clashing_table(seed: &mut Seed) -> Table {
+    let mut shape = if seed.once_in(3) {
+        large_shape(seed)
+    } else {
+        small_shape(seed)
+    };
+    shape.ops = seed.between(2, 32);
+    shape.boards = seed.between(1, 3);
+    shape.longest = shape.p;
+    some_table(seed, &shape)
+}
+
+/// A table with boards mostly apart and many pairs that race.
+fn racing_table(seed: &mut Seed) -> Table {
+    let mut shape = if seed.once_in(3) {
+        large_shape(seed)
+    } else {
+        small_shape(seed)
+    };
+    shape.ops = seed.between(2, 16);
+    shape.boards = shape.ops;
+    shape.cells = seed.between(1, 4);
+    shape.longest = shape.p;
+    let mut table = some_table(seed, &shape);
+    for (board, op) in table.ops.iter_mut().enumerate() {
+        op.boards = 1 << board;
+    }
+    if seed.once_in(4) {
+        let last = table.ops.len() - 1;
+        table.ops[last].boards |= 1 << seed.below(last as u64);
+    }
+    table
+}
+
+/// Whole tables with many clashes.
+pub fn clashing(seed: &mut Seed) -> Vec<u8> {
+    bytes_of(&clashing_table(seed))
+}
+
+/// Whole tables with many races.
+pub fn racing(seed: &mut Seed) -> Vec<u8> {
+    bytes_of(&racing_table(seed))
+}
+
+/// Two operations that just touch, or overlap by one tick, on one board or on
+/// one cell; the others are moved out of the way by their modes or left out.
+pub fn touching(seed: &mut Seed) -> Vec<u8> {
+    let mut table = small(seed);
+    table.ops.truncate(1);
+    let mut second = table.ops[0].clone();
+    second.start = table.ops[0].end() - seed.below(2);
+    second.dur = 1;
+    if seed.once_in(2) {
+        second.boards = 1 << seed.below(table.boards);
+        second.writes = some_set(seed, table.cells, 2);
+    }
+    table.len = table.len.max(second.end());
+    table.ops.push(second);
+    if seed.once_in(2) {
+        table.ops.swap(0, 1);
+    }
+    bytes_of(&table)
+}
+
+// ---- numbers just inside and just outside their ranges ------------------
+
+/// A set at the edge of its count: empty, the highest member, one beyond.
+fn edge_set(seed: &mut Seed, count: u64) -> u64 {
+    match seed.below(5) {
+        0 => 0,
+        1 if count > 0 => 1 << (count - 1),
+        2 => 1 << count,
+        3 => full_set(count),
+        _ => seed.draw() & 0xffff_ffff,
+    }
+}
+
+/// The count of modes, with as many follower words.
+fn set_modes(seed: &mut Seed, table: &mut Table, modes: u64) {
+    table.modes = modes;
+    while (table.follow.len() as u64) < modes {
+        table.follow.push(1 << seed.below(modes.min(32)));
+    }
+    table.follow.truncate(modes as usize);
+}
+
+/// One number of the head at an edge of its range.
+fn edge_head(seed: &mut Seed, table: &mut Table) {
+    match seed.below(6) {
+        0 => table.len = seed.one_of(&[0, 1, 999, 1000, 1001, 65535]),
+        1 => table.boards = seed.one_of(&[0, 1, 15, 16, 17, 255]),
+        2 => table.cells = seed.one_of(&[0, 1, 31, 32, 33, 255]),
+        3 => {
+            let modes = seed.one_of(&[0, 1, 31, 32, 33, 255]);
+            set_modes(seed, table, modes);
+        }
+        4 => table.first = edge_set(seed, table.modes),
+        _ => {
+            let mode = seed.below(table.modes) as usize;
+            table.follow[mode] = edge_set(seed, table.modes);
+        }
+    }
+}
+
+/// One number of an operation at an edge of its range.
+fn edge_op(seed: &mut Seed, table: &mut Table) {
+    let (p, boards, cells, modes) = (table.len, table.boards, table.cells, table.modes);
+    let which = seed.below(table.ops.len() as u64) as usize;
+    let op = &mut table.ops[which];
+    match seed.below(8) {
+        0 => op.dur = seed.one_of(&[0, 1, 65535]),
+        1 => op.dur = p - op.start,
+        2 => op.dur = p - op.start + 1,
+        3 => op.start = seed.one_of(&[p - op.dur, p - op.dur + 1, p, 65535, 65536 - op.dur]),
+        4 => op.boards = edge_set(seed, boards),
+        5 => op.reads = edge_set(seed, cells),
+        6 => op.writes = edge_set(seed, cells),
+        _ => op.modes = edge_set(seed, modes),
+    }
+}
+
+/// A good table with one or two numbers put at an edge.
+fn edge_table(seed: &mut Seed) -> Table {
+    let mut table = good(seed);
+    if seed.once_in(2) {
+        edge_op(seed, &mut table);
+    }
+    if seed.once_in(2) {
+        edge_head(seed, &mut table);
+    } else {
+        let in_time = table.ops.iter().all(|op| op.start + op.dur <= table.len);
+        if in_time {
+            edge_op(seed, &mut table);
+        }
+    }
+    table
+}
+
+/// Tables with numbers on both sides of every range.
+pub fn edges(seed: &mut Seed) -> Vec<u8> {
+    bytes_of(&edge_table(seed))
+}
+
+// ---- counts of operations -----------------------------------------------
+
+/// A table with exactly so many operations, none of which clash or race unless
+/// that is asked for.
+fn table_of(seed: &mut Seed, ops: u64, apart: bool) -> Table {
+    let shape = Shape {
+        p: 64,
+        boards: 16,
+        cells: 8,
+        modes: 4,
+        ops: 1,
+        longest: 2,
+    };
+    let mut table = some_table(seed, &shape);
+    table.ops.clear();
+    for i in 0..ops {
+        let mut op = some_op(seed, &shape);
+        if apart {
+            op.start = 2 * (i % 32);
+        }
+        table.ops.push(op);
+    }
+    table
+}
+
+/// 31, 32, 33 or 34 operations; also none.
+pub fn counted(seed: &mut Seed) -> Vec<u8> {
+    let ops = seed.one_of(&[0, 31, 32, 33, 33, 34]);
+    let apart = !seed.once_in(3);
+    let mut bytes = bytes_of(&table_of(seed, ops, apart));
+    if seed.once_in(3) {
+        let cut = seed.below(22);
+        bytes.truncate(bytes.len() - (cut as usize).min(bytes.len()));
+    }
+    bytes
+}
+
+// ---- damage to bytes ----------------------------------------------------
+
+/// The offsets of the fields as their lengths have them.
+fn offsets(bytes: &[u8]) -> Vec<usize> {
+    let mut all = Vec::new();
+    let mut place = 0;
+    while place + 3 <= bytes.len() {
+        all.push(place);
+        place += 3 + number_in(&bytes[place + 1..place + 3]) as usize;
+    }
+    all
+}
+
+/// One of the fields: its offset and the offset behind it.
+fn some_field(seed: &mut Seed, bytes: &[u8]) -> (usize, usize) {
+    let all = offsets(bytes);
+    let which = match seed.below(3) {
+        0 => all.len() - 1,
+        _ => seed.below(all.len() as u64) as usize,
+    };
+    let behind = all.get(which + 1).copied().unwrap_or(bytes.len());
+    (all[which], behind)
+}
+
+/// The first so many bytes.
+pub fn cut_at(bytes: &[u8], length: usize) -> Vec<u8> {
+    bytes[..length.min(bytes.len())].to_vec()
+}
+
+/// Every cut of the bytes, the empty one and the whole one included.
+pub fn all_cuts(bytes: &[u8]) -> Vec<Vec<u8>> {
+    (0..=bytes.len())
+        .map(|length| cut_at(bytes, length))
+        .collect()
+}
+
+/// Cut anywhere, often just before, in or behind a header.
+pub fn cut(seed: &mut Seed, bytes: &[u8]) -> Vec<u8> {
+    let length = if seed.once_in(2) {
+        seed.below(bytes.len() as u64 + 1) as usize
+    } else {
+        some_field(seed, bytes).0 + seed.below(5) as usize
+    };
+    cut_at(bytes, length)
+}
+
+/// One to four bits turned over.
+pub fn flipped(seed: &mut Seed, bytes: &[u8]) -> Vec<u8> {
+    let mut out = bytes.to_vec();
+    for _ in 0..seed.between(1, 4) {
+        let place = seed.below(out.len() as u64) as usize;
+        out[place] ^= 1 << seed.below(8);
+    }
+    out
+}
+
+/// One field with another tag.
+pub fn wrong_tag(seed: &mut Seed, bytes: &[u8]) -> Vec<u8> {
+    let mut out = bytes.to_vec();
+    let (at, _) = some_field(seed, bytes);
+    out[at] = seed.one_of(&[0, 1, 2, 3, 4, 5, 0x11, 0x12, 0x13, 0xff]) as u8;
+    out
+}
+
+/// One field with another length; sometimes the value follows it.
+pub fn wrong_length(seed: &mut Seed, bytes: &[u8]) -> Vec<u8> {
+    let mut out = bytes.to_vec();
+    let (at, behind) = some_field(seed, bytes);
+    let good = number_in(&bytes[at + 1..at + 3]);
+    let bad = match seed.below(7) {
+        0 => good + 1,
+        1 => good.wrapping_sub(1) & 0xffff,
+        2 => good + 4,
+        3 => good + 256,
+        4 => 0,
+        5 => 65535,
+        _ => seed.below(65536),
+    };
+    out[at + 1] = (bad >> 8) as u8;
+    out[at + 2] = bad as u8;
+    if seed.once_in(2) && bad > good && bad < good + 8 {
+        let more = vec![0; (bad - good) as usize];
+        out.splice(behind..behind, more);
+    }
+    out
+}
+
+/// A field left out, doubled, or put at the end.
+pub fn moved_field(seed: &mut Seed, bytes: &[u8]) -> Vec<u8> {
+    let (at, behind) = some_field(seed, bytes);
+    let field = bytes[at..behind].to_vec();
+    let mut out = bytes.to_vec();
+    match seed.below(3) {
+        0 => {
+            out.drain(at..behind);
+        }
+        1 => {
+            out.splice(at..at, field);
+        }
+        _ => {
+            out.drain(at..behind);
+            out.extend_from_slice(&field);
+        }
+    }
+    out
+}
+
+/// Bytes behind the end: a few, or up to beyond what the program reads.
+pub fn longer(seed: &mut Seed, bytes: &[u8]) -> Vec<u8> {
+    let mut out = bytes.to_vec();
+    let more = match seed.below(8) {
+        0 => seed.below(5000),
+        1 => 4096u64.saturating_sub(bytes.len() as u64) + seed.below(3),
+        _ => seed.between(1, 24),
+    };
+    let tag = seed.one_of(&[0, 1, 4, 5, 0x12, 0xff]) as u8;
+    out.push(tag);
+    for place in 1..more {
+        out.push(if place < 3 && seed.once_in(2) {
+            0
+        } else {
+            seed.draw() as u8
+        });
+    }
+    out
+}
+
+/// Any bytes, often with the beginning of a table.
+pub fn noise(seed: &mut Seed) -> Vec<u8> {
+    let mut out = Vec::new();
+    if seed.once_in(2) {
+        out.extend_from_slice(&[0x01, 0x00, 0x02]);
+    }
+    for _ in 0..seed.below(40) {
+        let most = if seed.once_in(2) { 8 } else { 256 };
+        out.push(seed.below(most) as u8);
+    }
+    out
+}
+
+/// One kind of damage.
+fn damage(seed: &mut Seed, bytes: &[u8]) -> Vec<u8> {
+    match seed.below(6) {
+        0 => cut(seed, bytes),
+        1 => flipped(seed, bytes),
+        2 => wrong_tag(seed, bytes),
+        3 => wrong_length(seed, bytes),
+        4 => moved_field(seed, bytes),
+        _ => longer(seed, bytes),
+    }
+}
+
+/// A table as bytes, of any kind.
+pub fn table_bytes(seed: &mut Seed) -> Vec<u8> {
+    match seed.below(24) {
+        0..=7 => whole(seed),
+        8 | 9 => clashing(seed),
+        10 | 11 => racing(seed),
+        12 => touching(seed),
+        13..=15 => edges(seed),
+        16 => counted(seed),
+        17 => noise(seed),
+        18 => {
+            let bytes = counted(seed);
+            damage_or_keep(seed, bytes)
+        }
+        _ => {
+            let bytes = bytes_of(&good(seed));
+            damage(seed, &bytes)
+        }
+    }
+}
+
+/// Damage to bytes that may be empty.
+fn damage_or_keep(seed: &mut Seed, bytes: Vec<u8>) -> Vec<u8> {
+    if bytes.len() < 3 {
+        return bytes;
+    }
+    damage(seed, &bytes)
+}
+
+// ---- replies ------------------------------------------------------------
+
+/// A reply in range with so many rows, not of any table.
+fn free_reply(seed: &mut Seed, rows: u64) -> Reply {
+    let period = seed.often_edge(1, 1000);
+    let mut reply = Reply {
+        period,
+        rows: Vec::new(),
+    };
+    for _ in 0..rows {
+        let start = seed.often_edge(0, 999);
+        reply.rows.push(Row {
+            folded: start % period,
+            fst: start / period,
+        });
+    }
+    reply
+}
+
+/// A whole reply: of a table, or any that is in range.
+pub fn whole_reply(seed: &mut Seed) -> Vec<u8> {
+    if seed.once_in(2) {
+        let mut out = [0; 256];
+        let table = small(seed);
+        if let Ok(count) = plan(&bytes_of(&table), &mut out) {
+            return out[..count].to_vec();
+        }
+    }
+    let rows = seed.often_edge(1, 32);
+    reply_bytes(&free_reply(seed, rows))
+}
+
+/// One number of a reply at an edge of its range.
+pub fn edge_reply(seed: &mut Seed) -> Vec<u8> {
+    let rows = seed.between(1, 8);
+    let mut reply = free_reply(seed, rows);
+    let period = reply.period;
+    let which = seed.below(rows) as usize;
+    match seed.below(5) {
+        0 => reply.period = seed.one_of(&[0, 1, 999, 1000, 1001, 65535]),
+        1 => reply.rows[which].folded = seed.one_of(&[0, period - 1, period, period + 1, 65535]),
+        2 => {
+            reply.rows[which] = Row {
+                folded: 999 % period,
+                fst: 999 / period,
+            }
+        }
+        3 => {
+            reply.rows[which] = Row {
+                folded: 1000 % period,
+                fst: 1000 / period,
+            }
+        }
+        _ => reply.rows[which].fst = seed.one_of(&[0, 999 / period, 999 / period + 1, 65535]),
+    }
+    reply_bytes(&reply)
+}
+
+/// A reply with none, 31, 32, 33 or 34 rows, sometimes cut.
+pub fn counted_reply(seed: &mut Seed) -> Vec<u8> {
+    let rows = seed.one_of(&[0, 31, 32, 33, 33, 34]);
+    let bytes = reply_bytes(&free_reply(seed, rows));
+    let length = bytes.len()
+        - if seed.once_in(3) {
+            seed.below(5) as usize
+        } else {
+            0
+        };
+    cut_at(&bytes, length)
+}
+
+/// A reply of any kind.
+pub fn reply(seed: &mut Seed) -> Vec<u8> {
+    match seed.below(12) {
+        0..=4 => whole_reply(seed),
+        5 | 6 => edge_reply(seed),
+        7 | 8 => counted_reply(seed),
+        9 => {
+            let bytes = counted_reply(seed);
+            damage_or_keep(seed, bytes)
+        }
+        _ => {
+            let bytes = whole_reply(seed);
+            damage(seed, &bytes)
+        }
+    }
+}
+
+// ---- tables as numbers --------------------------------------------------
+
+/// Whole numbers: of a table that is accepted, or clashes, or races.
+pub fn whole_numbers(seed: &mut Seed) -> Numbers {
+    let table = match seed.below(12) {
+        0 => clashing_table(seed),
+        1 | 2 => racing_table(seed),
+        _ => good(seed),
+    };
+    numbers_of(&table)
+}
+
+/// The number made too large for a field; its low bits may stay fine.
+fn too_large(seed: &mut Seed, number: u64) -> u64 {
+    match seed.below(6) {
+        0 => number.saturating_add(1 << 8),
+        1 => number.saturating_add(1 << 16),
+        2 => number.saturating_add(1 << 32),
+        3 => u64::MAX,
+        4 => u64::MAX - seed.below(1000),
+        _ => number | 1 << seed.between(8, 63),
+    }
+}
+
+/// One number of the head or of an operation made too large.
+fn enlarge(seed: &mut Seed, numbers: &mut Numbers) {
+    let kind = seed.below(8);
+    match kind {
+        0 => numbers.p = too_large(seed, numbers.p),
+        1 => numbers.boards = too_large(seed, numbers.boards),
+        2 => numbers.cells = too_large(seed, numbers.cells),
+        3 => numbers.modes = too_large(seed, numbers.modes),
+        4 => numbers.first = too_large(seed, numbers.first),
+        5 if !numbers.follow.is_empty() => {
+            let mode = seed.below(numbers.follow.len() as u64) as usize;
+            numbers.follow[mode] = too_large(seed, numbers.follow[mode]);
+        }
+        _ if !numbers.ops.is_empty() => {
+            let place = seed.below(numbers.ops.len() as u64) as usize;
+            numbers.ops[place] = too_large(seed, numbers.ops[place]);
+        }
+        _ => numbers.p = 0,
+    }
+}
+
+/// Another count of follower words; rarely so many that the length of the field
+/// would come back to a good one in 16 bits.
+fn recount_followers(seed: &mut Seed, numbers: &mut Numbers) {
+    let now = numbers.follow.len();
+    let count = match seed.below(16) {
+        0 => now + 16384,
+        1..=3 => 0,
+        4..=6 => 33,
+        7..=10 => now + 1,
+        _ => now.saturating_sub(1),
+    };
+    numbers.follow.resize(count, 1);
+}
+
+/// Numbers left out at the end, or more behind it.
+fn recount_ops(seed: &mut Seed, numbers: &mut Numbers) {
+    match seed.below(4) {
+        0 => numbers.ops.clear(),
+        1 => numbers.ops.push(seed.below(70000)),
+        2 => {
+            let more = seed.between(1, 13) as usize;
+            let length = numbers.ops.len() + more;
+            numbers.ops.resize(length, 1);
+        }
+        _ => {
+            let fewer = seed.between(1, 6) as usize;
+            numbers
+                .ops
+                .truncate(numbers.ops.len().saturating_sub(fewer));
+        }
+    }
+}
+
+/// Numbers with 31 to 34 operations, sometimes with one more number or fewer.
+pub fn counted_numbers(seed: &mut Seed) -> Numbers {
+    let ops = seed.one_of(&[0, 31, 32, 32, 33, 34]);
+    let mut numbers = numbers_of(&table_of(seed, ops, true));
+    if seed.once_in(3) {
+        recount_ops(seed, &mut numbers);
+    }
+    numbers
+}
+
+/// Whole numbers with one to three faults.
+pub fn damaged_numbers(seed: &mut Seed) -> Numbers {
+    let mut numbers = whole_numbers(seed);
+    for _ in 0..seed.between(1, 3) {
+        match seed.below(4) {
+            0 => recount_followers(seed, &mut numbers),
+            1 => recount_ops(seed, &mut numbers),
+            _ => enlarge(seed, &mut numbers),
+        }
+    }
+    numbers
+}
+
+/// Numbers of any kind.
+pub fn numbers(seed: &mut Seed) -> Numbers {
+    match seed.below(10) {
+        0..=3 => whole_numbers(seed),
+        4 | 5 => numbers_of(&edge_table(seed)),
+        6 => counted_numbers(seed),
+        _ => damaged_numbers(seed),
+    }
+}
+
+// ---- rooms and questions ------------------------------------------------
+
+/// The length of an output buffer: enough, just enough, one too few, less.
+pub fn room(seed: &mut Seed, needed: usize) -> usize {
+    match seed.below(8) {
+        0 => needed.saturating_sub(1),
+        1 => seed.below(needed as u64 + 1) as usize,
+        2 => needed,
+        3 => 0,
+        _ => needed + seed.below(300) as usize,
+    }
+}
+
+/// A number asked for: in range, at its edges, just outside, far outside.
+fn asked(seed: &mut Seed, low: u64, high: u64) -> u64 {
+    match seed.below(16) {
+        0 => low,
+        1 => high,
+        2 => low.saturating_sub(1),
+        3 => high + 1,
+        4 => too_large(seed, low),
+        _ => seed.between(low, high),
+    }
+}
+
+/// A question for the margin: i, j, n, q.
+pub fn margin_question(seed: &mut Seed, ops: u64, p: u64) -> (u64, u64, u64, u64) {
+    let i = asked(seed, 0, ops - 1);
+    let j = asked(seed, 0, ops - 1);
+    let n = asked(seed, 1, 1000);
+    let q = asked(seed, 1, p);
+    (i, j, n, q)
+}
+
+/// A question for "is q right".
+pub fn period_question(seed: &mut Seed, p: u64) -> u64 {
+    asked(seed, 1, p)
+}
+
+// ---- relabelled tables --------------------------------------------------
+
+/// Every member moved up by so many.
+fn lifted(set: u64, by: u64) -> u64 {
+    set << by
+}
+
+/// The same table with boards, cells and modes named by the highest numbers. The
+/// modes below them are reached by no run.
+pub fn relabelled(table: &Table) -> Table {
+    let (boards, cells, modes) = (16 - table.boards, 32 - table.cells, 32 - table.modes);
+    let mut follow: Vec<u64> = (0..modes).map(|mode| 1 << mode).collect();
+    follow.extend(table.follow.iter().map(|set| lifted(*set, modes)));
+    let lift = |op: &Op| Op {
+        start: op.start,
+        dur: op.dur,
+        boards: lifted(op.boards, boards),
+        reads: lifted(op.reads, cells),
+        writes: lifted(op.writes, cells),
+        modes: lifted(op.modes, modes),
+    };
+    Table {
+        len: table.len,
+        boards: 16,
+        cells: 32,
+        modes: 32,
+        first: lifted(table.first, modes),
+        follow,
+        ops: table.ops.iter().map(lift).collect(),
+    }
+}

@@ -1,0 +1,488 @@
+//! Reading, judging and writing of tables (document 01, "The table", "Bytes",
+//! "Numbers of refusal").
+
+/// "input ends inside a field's header or value"
+pub const SHORT: u32 = 1;
+/// "a tag that is not due, or input ends with a needed field missing"
+pub const ORDER: u32 = 2;
+/// "length is not the tag's length"
+pub const SIZE: u32 = 3;
+/// "a number or set outside its range above"
+pub const RANGE: u32 = 4;
+/// "a 33rd operation"
+pub const MANY: u32 = 5;
+/// "two operations clash"
+pub const CLASH: u32 = 6;
+/// "two operations race"
+pub const RACE: u32 = 7;
+/// "output buffer too short"
+pub const ROOM: u32 = 8;
+/// "an operation number, distance or period asked for is outside its range"
+pub const ASK: u32 = 9;
+
+/// "operations | 1 to 32": the most there may be.
+pub const MOST_OPS: usize = 32;
+
+/// "six for each operation, in layout order"
+pub const NUMBERS_PER_OP: usize = 6;
+
+/// "A refusal returns its number, a and b".
+#[derive(Clone, Copy, Debug, PartialEq, Eq)]
+pub struct Refusal {
+    pub number: u32,
+    pub a: u64,
+    pub b: u64,
+}
+
+/// "An operation has a start t, a duration d ...; a set of boards ...; cells it
+/// reads; cells it writes ...; a set of modes". Member x of a set is bit x.
+#[derive(Clone, Debug, PartialEq, Eq)]
+pub struct Op {
+    pub start: u64,
+    pub dur: u64,
+    pub boards: u64,
+    pub reads: u64,
+    pub writes: u64,
+    pub modes: u64,
+}
+
+/// The table: its length p, its counts, the first modes, the followers of each
+/// mode, and the operations.
+#[derive(Clone, Debug, PartialEq, Eq)]
+pub struct Table {
+    pub len: u64,
+    pub boards: u64,
+    pub cells: u64,
+    pub modes: u64,
+    pub first: u64,
+    pub follow: Vec<u64>,
+    pub ops: Vec<Op>,
+}
+
+/// "A table handed over as numbers (six for each operation, in layout order)".
+#[derive(Clone, Debug, PartialEq, Eq)]
+pub struct Numbers {
+    pub p: u64,
+    pub boards: u64,
+    pub cells: u64,
+    pub modes: u64,
+    pub first: u64,
+    pub follow: Vec<u64>,
+    pub ops: Vec<u64>,
+}
+
+impl Op {
+    /// "from t up to but not including t + d": this is t + d.
+    pub fn end(&self) -> u64 {
+        self.start + self.dur
+    }
+}
+
+/// A refusal whose second figure is 0.
+pub fn refusal(number: u32, a: u64) -> Refusal {
+    Refusal { number, a, b: 0 }
+}
+
+/// Err with the number and figure where a demand is not met.
+pub fn demand(met: bool, number: u32, a: u64) -> Result<(), Refusal> {
+    if met {
+        Ok(())
+    } else {
+        Err(refusal(number, a))
+    }
+}
+
+/// "bit 0 of a set is the lowest bit"
+pub fn has(set: u64, member: u64) -> bool {
+    (set >> member) & 1 == 1
+}
+
+/// "All numbers are most significant byte first".
+pub fn number_in(bytes: &[u8]) -> u64 {
+    bytes
+        .iter()
+        .fold(0, |so_far, byte| so_far * 256 + u64::from(*byte))
+}
+
+// ---- ranges -------------------------------------------------------------
+
+/// The number can be written in so many bits.
+fn fits(number: u64, bits: u32) -> bool {
+    number < 1 << bits
+}
+
+/// "A set names nothing beyond the table's counts."
+fn names_within(set: u64, count: u64) -> bool {
+    (0..64).all(|member| !has(set, member) || member < count)
+}
+
+/// "table length p, in ticks | 1 to 1000"
+fn length_in_range(p: u64) -> bool {
+    fits(p, 16) && 1 <= p && p <= 1000
+}
+
+/// "boards 1 to 16", "cells 0 to 32", "modes 1 to 32"
+fn counts_in_range(boards: u64, cells: u64, modes: u64) -> bool {
+    let all_fit = fits(boards, 8) && fits(cells, 8) && fits(modes, 8);
+    all_fit && 1 <= boards && boards <= 16 && cells <= 32 && 1 <= modes && modes <= 32
+}
+
+/// A set of modes, "not empty", within the count.
+fn modes_in_range(set: u64, modes: u64) -> bool {
+    fits(set, 32) && set != 0 && names_within(set, modes)
+}
+
+/// "a set of first modes, not empty, and for each mode the set of modes that
+/// may follow, not empty"
+fn turns_in_range(modes: u64, first: u64, follow: &[u64]) -> bool {
+    modes_in_range(first, modes) && follow.iter().all(|set| modes_in_range(*set, modes))
+}
+
+/// "a duration d of at least 1, with t + d at most p"
+fn dates_in_range(p: u64, op: &Op) -> bool {
+    fits(op.start, 16) && fits(op.dur, 16) && 1 <= op.dur && op.start + op.dur <= p
+}
+
+/// "a set of boards, not empty; cells it reads; cells it writes (either set may
+/// be empty, and they may meet); a set of modes, not empty"
+fn sets_in_range(table: &Table, op: &Op) -> bool {
+    let boards = fits(op.boards, 16) && op.boards != 0 && names_within(op.boards, table.boards);
+    let reads = fits(op.reads, 32) && names_within(op.reads, table.cells);
+    let writes = fits(op.writes, 32) && names_within(op.writes, table.cells);
+    boards && reads && writes && modes_in_range(op.modes, table.modes)
+}
+
+/// The ranges of one operation field.
+fn op_in_range(table: &Table, op: &Op) -> bool {
+    dates_in_range(table.len, op) && sets_in_range(table, op)
+}
+
+// ---- fields as bytes ----------------------------------------------------
+
+/// The bytes and a place in them.
+pub struct Fields<'a> {
+    bytes: &'a [u8],
+    place: usize,
+}
+
+impl<'a> Fields<'a> {
+    pub fn new(bytes: &'a [u8]) -> Fields<'a> {
+        Fields { bytes, place: 0 }
+    }
+
+    /// The offset of the field that comes next.
+    pub fn offset(&self) -> u64 {
+        self.place as u64
+    }
+
+    pub fn at_end(&self) -> bool {
+        self.place == self.bytes.len()
+    }
+
+    /// "Within one: header complete, tag due, not a 33rd, length, value
+    /// complete"; the ranges are judged by the caller. `before` tells how many
+    /// operations were read before this field.
+    pub fn field(&mut self, tag: u8, length: usize, before: usize) -> Result<&'a [u8], Refusal> {
+        let at = self.offset();
+        let rest = &self.bytes[self.place..];
+        demand(!rest.is_empty(), ORDER, at)?;
+        demand(rest.len() >= 3, SHORT, at)?;
+        demand(rest[0] == tag, ORDER, at)?;
+        demand(before < MOST_OPS, MANY, at)?;
+        demand(number_in(&rest[1..3]) == length as u64, SIZE, at)?;
+        demand(rest.len() >= 3 + length, SHORT, at)?;
+        self.place += 3 + length;
+        Ok(&rest[3..3 + length])
+    }
+}
+
+/// "01, length 2: p."
+fn read_length(fields: &mut Fields) -> Result<u64, Refusal> {
+    let at = fields.offset();
+    let p = number_in(fields.field(0x01, 2, 0)?);
+    demand(length_in_range(p), RANGE, at)?;
+    Ok(p)
+}
+
+/// "02, length 3: boards, cells, modes, a byte each."
+fn read_counts(fields: &mut Fields) -> Result<(u64, u64, u64), Refusal> {
+    let at = fields.offset();
+    let value = fields.field(0x02, 3, 0)?;
+    let (boards, cells, modes) = (
+        u64::from(value[0]),
+        u64::from(value[1]),
+        u64::from(value[2]),
+    );
+    demand(counts_in_range(boards, cells, modes), RANGE, at)?;
+    Ok((boards, cells, modes))
+}
+
+/// "03, length 4 + 4·modes: first modes, then the followers of mode 0, 1, .. as
+/// 32-bit sets."
+fn read_turns(fields: &mut Fields, modes: u64) -> Result<(u64, Vec<u64>), Refusal> {
+    let at = fields.offset();
+    let value = fields.field(0x03, 4 + 4 * modes as usize, 0)?;
+    let first = number_in(&value[0..4]);
+    let follow: Vec<u64> = value[4..].chunks(4).map(number_in).collect();
+    demand(turns_in_range(modes, first, &follow), RANGE, at)?;
+    Ok((first, follow))
+}
+
+/// "start, duration, boards (16 bits each), reads, writes, modes (32 bits each)"
+fn op_in(value: &[u8]) -> Op {
+    Op {
+        start: number_in(&value[0..2]),
+        dur: number_in(&value[2..4]),
+        boards: number_in(&value[4..6]),
+        reads: number_in(&value[6..10]),
+        writes: number_in(&value[10..14]),
+        modes: number_in(&value[14..18]),
+    }
+}
+
+/// "04, length 18, once for each operation"; there is at least one.
+fn read_ops(fields: &mut Fields, table: &mut Table) -> Result<(), Refusal> {
+    loop {
+        let at = fields.offset();
+        let op = op_in(fields.field(0x04, 18, table.ops.len())?);
+        demand(op_in_range(table, &op), RANGE, at)?;
+        table.ops.push(op);
+        if fields.at_end() {
+            return Ok(());
+        }
+    }
+}
+
+/// "Table fields, in this order and no other", "judged left to right".
+fn read_table(bytes: &[u8]) -> Result<Table, Refusal> {
+    let mut fields = Fields::new(bytes);
+    let len = read_length(&mut fields)?;
+    let (boards, cells, modes) = read_counts(&mut fields)?;
+    let (first, follow) = read_turns(&mut fields, modes)?;
+    let mut table = Table {
+        len,
+        boards,
+        cells,
+        modes,
+        first,
+        follow,
+        ops: Vec::new(),
+    };
+    read_ops(&mut fields, &mut table)?;
+    Ok(table)
+}
+
+// ---- clash and race -----------------------------------------------------
+
+/// "An operation holds its boards and uses its cells from t up to but not
+/// including t + d. Two operations that touch ... do not overlap."
+fn overlap(one: &Op, other: &Op) -> bool {
+    one.start < other.end() && other.start < one.end()
+}
+
+/// "when they share a board and a mode and overlap"
+pub fn clash(one: &Op, other: &Op) -> bool {
+    one.boards & other.boards != 0 && one.modes & other.modes != 0 && overlap(one, other)
+}
+
+/// "one writes a cell that the other reads or writes"
+fn writes_into(one: &Op, other: &Op) -> bool {
+    one.writes & (other.reads | other.writes) != 0
+}
+
+/// "when they share a mode and overlap and one writes a cell that the other
+/// reads or writes"
+pub fn race(one: &Op, other: &Op) -> bool {
+    let cells = writes_into(one, other) || writes_into(other, one);
+    one.modes & other.modes != 0 && overlap(one, other) && cells
+}
+
+/// "over all pairs, by lower number and then higher"
+fn no_pair(ops: &[Op], number: u32, bad: fn(&Op, &Op) -> bool) -> Result<(), Refusal> {
+    for low in 0..ops.len() {
+        for high in low + 1..ops.len() {
+            if bad(&ops[low], &ops[high]) {
+                return Err(Refusal {
+                    number,
+                    a: low as u64,
+                    b: high as u64,
+                });
+            }
+        }
+    }
+    Ok(())
+}
+
+/// "Then CLASH over all pairs ...; then RACE likewise".
+pub fn judge_pairs(table: &Table) -> Result<(), Refusal> {
+    no_pair(&table.ops, CLASH, clash)?;
+    no_pair(&table.ops, RACE, race)
+}
+
+/// A table handed over as bytes: its fields, then CLASH, then RACE.
+pub fn judge(bytes: &[u8]) -> Result<Table, Refusal> {
+    let table = read_table(bytes)?;
+    judge_pairs(&table)?;
+    Ok(table)
+}
+
+// ---- tables handed over as numbers --------------------------------------
+
+/// The offset of field 03.
+const TURNS_AT: u64 = 5 + 6;
+
+/// The offset that operation `index` has in the layout.
+fn op_offset(modes: u64, index: u64) -> u64 {
+    TURNS_AT + 3 + 4 + 4 * modes + 21 * index
+}
+
+/// Fields 01 to 03. "A wrong count of follower words is SIZE, a number too large
+/// for its field RANGE"; within a field the length comes before the ranges.
+fn judge_head(numbers: &Numbers) -> Result<(), Refusal> {
+    demand(length_in_range(numbers.p), RANGE, 0)?;
+    demand(
+        counts_in_range(numbers.boards, numbers.cells, numbers.modes),
+        RANGE,
+        5,
+    )?;
+    demand(numbers.follow.len() as u64 == numbers.modes, SIZE, TURNS_AT)?;
+    demand(
+        turns_in_range(numbers.modes, numbers.first, &numbers.follow),
+        RANGE,
+        TURNS_AT,
+    )
+}
+
+/// The six numbers of an operation in layout order.
+fn op_of(six: &[u64]) -> Op {
+    Op {
+        start: six[0],
+        dur: six[1],
+        boards: six[2],
+        reads: six[3],
+        writes: six[4],
+        modes: six[5],
+    }
+}
+
+/// Field 04 for each operation. "An operation with numbers missing SHORT"; not a
+/// 33rd comes before the value, the value before its ranges.
+fn judge_ops(table: &mut Table, numbers: &[u64]) -> Result<(), Refusal> {
+    demand(!numbers.is_empty(), ORDER, op_offset(table.modes, 0))?;
+    for (index, given) in numbers.chunks(NUMBERS_PER_OP).enumerate() {
+        let at = op_offset(table.modes, index as u64);
+        demand(index < MOST_OPS, MANY, at)?;
+        demand(given.len() == NUMBERS_PER_OP, SHORT, at)?;
+        let op = op_of(given);
+        demand(op_in_range(table, &op), RANGE, at)?;
+        table.ops.push(op);
+    }
+    Ok(())
+}
+
+/// "A table handed over as numbers ... is judged as if first written in this
+/// layout and then read."
+pub fn judge_numbers(numbers: &Numbers) -> Result<Table, Refusal> {
+    judge_head(numbers)?;
+    let mut table = Table {
+        len: numbers.p,
+        boards: numbers.boards,
+        cells: numbers.cells,
+        modes: numbers.modes,
+        first: numbers.first,
+        follow: numbers.follow.clone(),
+        ops: Vec::new(),
+    };
+    judge_ops(&mut table, &numbers.ops)?;
+    judge_pairs(&table)?;
+    Ok(table)
+}
+
+// ---- writing ------------------------------------------------------------
+
+/// The number in so many bytes, most significant byte first.
+pub fn push_number(out: &mut Vec<u8>, number: u64, bytes: u32) {
+    for place in (0..bytes).rev() {
+        out.push((number >> (8 * place)) as u8);
+    }
+}
+
+/// "Each field is a one-byte tag, a two-byte length, and the value."
+pub fn push_field(out: &mut Vec<u8>, tag: u8, value: &[u8]) {
+    out.push(tag);
+    push_number(out, value.len() as u64, 2);
+    out.extend_from_slice(value);
+}
+
+/// The value of field 03.
+fn turns_value(table: &Table) -> Vec<u8> {
+    let mut value = Vec::new();
+    push_number(&mut value, table.first, 4);
+    for set in &table.follow {
+        push_number(&mut value, *set, 4);
+    }
+    value
+}
+
+/// The value of a field 04.
+fn op_value(op: &Op) -> Vec<u8> {
+    let mut value = Vec::new();
+    push_number(&mut value, op.start, 2);
+    push_number(&mut value, op.dur, 2);
+    push_number(&mut value, op.boards, 2);
+    push_number(&mut value, op.reads, 4);
+    push_number(&mut value, op.writes, 4);
+    push_number(&mut value, op.modes, 4);
+    value
+}
+
+/// The table in the layout. Nothing is judged here: of a number too large for
+/// its place the low bits are written (the generator of bad inputs uses that).
+pub fn bytes_of(table: &Table) -> Vec<u8> {
+    let mut out = Vec::new();
+    let mut length = Vec::new();
+    push_number(&mut length, table.len, 2);
+    push_field(&mut out, 0x01, &length);
+    push_field(
+        &mut out,
+        0x02,
+        &[table.boards as u8, table.cells as u8, table.modes as u8],
+    );
+    push_field(&mut out, 0x03, &turns_value(table));
+    for op in &table.ops {
+        push_field(&mut out, 0x04, &op_value(op));
+    }
+    out
+}
+
+/// The table as numbers.
+pub fn numbers_of(table: &Table) -> Numbers {
+    let mut ops = Vec::new();
+    for op in &table.ops {
+        ops.extend_from_slice(&[op.start, op.dur, op.boards, op.reads, op.writes, op.modes]);
+    }
+    Numbers {
+        p: table.len,
+        boards: table.boards,
+        cells: table.cells,
+        modes: table.modes,
+        first: table.first,
+        follow: table.follow.clone(),
+        ops,
+    }
+}
+
+/// "Success writes the stated bytes from the front and leaves the rest of the
+/// buffer"; "output buffer too short" gives the bytes needed.
+pub fn put(bytes: &[u8], out: &mut [u8]) -> Result<usize, Refusal> {
+    demand(out.len() >= bytes.len(), ROOM, bytes.len() as u64)?;
+    out[..bytes.len()].copy_from_slice(bytes);
+    Ok(bytes.len())
+}
+
+/// "A table can be written as well as read": judged, then ROOM with the length
+/// of the table.
+pub fn write_table(numbers: &Numbers, out: &mut [u8]) -> Result<usize, Refusal> {
+    let table = judge_numbers(numbers)?;
+    put(&bytes_of(&table), out)
+}

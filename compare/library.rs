@@ -1,0 +1,88 @@
+//! The functions of the static library, as include/trevozhil.h declares them.
+
+use crate::judge::Numbers;
+
+mod c {
+    extern "C" {
+        pub fn trevozhil_judge(s: *const u8, s_len: usize, a: *mut u64, b: *mut u64) -> u32;
+
+        pub fn trevozhil_judge_numbers(
+            p: u64,
+            boards: u64,
+            cells: u64,
+            modes: u64,
+            first: u64,
+            follow: *const u64,
+            follow_len: usize,
+            ops: *const u64,
+            ops_len: usize,
+            a: *mut u64,
+            b: *mut u64,
+        ) -> u32;
+
+        pub fn trevozhil_write(
+            p: u64,
+            boards: u64,
+            cells: u64,
+            modes: u64,
+            first: u64,
+            follow: *const u64,
+            follow_len: usize,
+            ops: *const u64,
+            ops_len: usize,
+            out: *mut u8,
+            out_len: usize,
+            a: *mut u64,
+            b: *mut u64,
+        ) -> u32;
+    }
+}
+
+/// What a call tells: the number that it returns, and what a and b hold then.
+#[derive(Clone, Copy, Debug, PartialEq, Eq)]
+pub struct Said {
+    pub number: u32,
+    pub a: u64,
+    pub b: u64,
+}
+
+/// What a and b hold before a call, which has to write both.
+const BEFORE: (u64, u64) = (0xa5a5_a5a5_a5a5_a5a5, 0x5a5a_5a5a_5a5a_5a5a);
+
+/// A call with places for a and b.
+fn said(call: impl FnOnce(*mut u64, *mut u64) -> u32) -> Said {
+    let (mut a, mut b) = BEFORE;
+    let number = call(&mut a, &mut b);
+    Said { number, a, b }
+}
+
+// Every pointer below comes from a whole slice or vector and goes with its
+// length, and no two of them meet. An input is lent by a pointer that could
+// write, so that the caller can see afterwards whether a call kept it.
+
+pub fn judge(bytes: &mut [u8]) -> Said {
+    let (s, s_len) = (bytes.as_mut_ptr(), bytes.len());
+    said(|a, b| unsafe { c::trevozhil_judge(s, s_len, a, b) })
+}
+
+pub fn judge_numbers(n: &mut Numbers) -> Said {
+    let (follow, follow_len) = (n.follow.as_mut_ptr(), n.follow.len());
+    let (ops, ops_len) = (n.ops.as_mut_ptr(), n.ops.len());
+    said(|a, b| unsafe {
+        c::trevozhil_judge_numbers(
+            n.p, n.boards, n.cells, n.modes, n.first, follow, follow_len, ops, ops_len, a, b,
+        )
+    })
+}
+
+pub fn write(n: &mut Numbers, out: &mut [u8]) -> Said {
+    let (follow, follow_len) = (n.follow.as_mut_ptr(), n.follow.len());
+    let (ops, ops_len) = (n.ops.as_mut_ptr(), n.ops.len());
+    let (out, out_len) = (out.as_mut_ptr(), out.len());
+    said(|a, b| unsafe {
+        c::trevozhil_write(
+            n.p, n.boards, n.cells, n.modes, n.first, follow, follow_len, ops, ops_len, out,
+            out_len, a, b,
+        )
+    })
+}

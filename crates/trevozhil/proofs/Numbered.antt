@@ -1,0 +1,185 @@
+-- No refusal has the number 0: where a caller is told 0, the table is accepted.
+-- Assumes nothing.
+use Prim.Native.Nat.{ℕ, zero, suc, _+_, _-_, _<_}
+use mathlib.Core.Path.{_≡_, refl, sym, ap, subst, _∙_}
+use mathlib.Core.Bool.{Bool, true, false, cond, not, _&&_}
+use mathlib.Core.List.{List, [], _∷_, _++_}
+use native.Mathlib.Omega.{arith}
+use native.Mathlib.Decide.{decLt}
+use lib.Dec.{leb, ltb, eqb}
+use lib.ListN.{length, drop}
+use Rattle.rules.specs.Table.{Op, Table, nops, op}
+use Rattle.rules.specs.Verdicts.{Verdict, accepted, refused, Test, refuseIf, _then_, onwards, more, each}
+use Rattle.rules.specs.Bytes.{num8, num16, opAt, tableBytes}
+use Rattle.rules.specs.Judge.{needed, header, due, notMany, sized, complete, ranged, fieldTest, repeatTest, fieldsFrom, pairsTest, judgeWhole, headTest, opsFrom, judge, Numbers, numbersTest, opOf, opsOfNumbers, judgeNumbers, opOk, clashes, races, lenOk, countsOk, setOk, eachSetOk, opsPlace, headOfNumbers, withOps}
+use Rattle.rules.specs.Answers.{Written, put, written, bytesOf}
+use Rattle.theory.proofs.Answering.{put-room, put-short}
+use Rattle.theory.proofs.Judging.{field-row, repeat-row, fields-end, fields-next, head-row, judge-row}
+use Rattle.trevozhil.specs.declared.Said.{Said}
+use Rattle.trevozhil.specs.Said.{Left, said, saidOf, unwritten, leftOf, JudgeSays, NumbersSay, WriteLeaves}
+
+-- a verdict that, where it refuses, has a number above 0
+data Numbered {A : Type 0} : Verdict A → Type 0 where
+  good : {x : A} → Numbered (accepted x)
+  bad : {number a b : ℕ} → 0 < number → Numbered (refused number a b)
+
+-- ---- the ways to put verdicts together
+refuse-numbered : (fault : Bool) (number a b : ℕ) → 0 < number → Numbered (refuseIf fault number a b)
+unfolding refuseIf
+refuse-numbered true number a b h = bad h
+refuse-numbered false number a b h = good
+
+cond-numbered : {A : Type 0} {v w : Verdict A} (t : Bool) → Numbered v → Numbered w → Numbered (cond t v w)
+cond-numbered true h g = h
+cond-numbered false h g = g
+
+then-numbered : {A B : Type 0} {v : Verdict A} {w : Verdict B} → Numbered v → Numbered w → Numbered (v then w)
+unfolding _then_
+then-numbered good g = g
+then-numbered (bad h) g = bad h
+
+onwards-numbered : {A B : Type 0} {v : Verdict A} {f : A → Verdict B} → Numbered v → ((x : A) → Numbered (f x)) → Numbered (onwards v f)
+unfolding onwards
+onwards-numbered {v = accepted x} good g = g x
+onwards-numbered (bad h) g = bad h
+
+more-numbered : {A : Type 0} {v : Verdict (List A)} (x : A) → Numbered v → Numbered (more x v)
+unfolding more
+more-numbered x good = good
+more-numbered x (bad h) = bad h
+
+each-numbered : (f : ℕ → Test) → ((i : ℕ) → Numbered (f i)) → (i n : ℕ) → Numbered (each f i n)
+unfolding each
+each-numbered f h i zero = good
+each-numbered f h i (suc n) = then-numbered (h i) (each-numbered f h (suc i) n)
+
+-- ---- the tests
+ranged-numbered : (ok : Bool) (at : ℕ) → Numbered (ranged ok at)
+unfolding ranged
+ranged-numbered ok at = refuse-numbered (not ok) 4 at 0 (omega arith)
+
+needed-numbered : (s : List ℕ) (at : ℕ) → Numbered (needed s at)
+unfolding needed
+needed-numbered s at = refuse-numbered (leb (length s) at) 2 at 0 (omega arith)
+
+many-numbered : (at left : ℕ) → Numbered (notMany at left)
+unfolding notMany
+many-numbered at left = refuse-numbered (eqb left 0) 5 at 0 (omega arith)
+
+module _ (s : List ℕ) (at tag : ℕ) where
+  head-numbered : {A : Type 0} {v : Verdict A} → Numbered v → Numbered (header s at then due s at tag then v)
+  unfolding header due
+  head-numbered h =
+      then-numbered (refuse-numbered (ltb (length s) (at + 3)) 1 at 0 (omega arith))
+      (then-numbered (refuse-numbered (not (eqb (num8 s at) tag)) 2 at 0 (omega arith)) h)
+
+  value-numbered : (size : ℕ) (ok : Bool) → Numbered (sized s at size then complete s at size then ranged ok at)
+  unfolding sized complete
+  value-numbered size ok =
+      then-numbered (refuse-numbered (not (eqb (num16 s (at + 1)) size)) 3 at 0 (omega arith))
+      (then-numbered (refuse-numbered (ltb (length s) (at + 3 + size)) 1 at 0 (omega arith)) (ranged-numbered ok at))
+
+  field-numbered : (size : ℕ) (ok : Bool) → Numbered (fieldTest s at tag size ok)
+  field-numbered size ok =
+      subst Numbered (sym (field-row s at tag size ok)) (then-numbered (needed-numbered s at) (head-numbered (value-numbered size ok)))
+
+  repeat-numbered : (left size : ℕ) (ok : Bool) → Numbered (repeatTest s at left tag size ok)
+  repeat-numbered left size ok =
+      subst Numbered (sym (repeat-row s at tag size ok left)) (head-numbered (then-numbered (many-numbered at left) (value-numbered size ok)))
+
+fields-numbered : {A : Type 0} (tag size : ℕ) (ok : A → Bool) (value : List ℕ → ℕ → A) (s : List ℕ) (left at : ℕ)
+    → Numbered (fieldsFrom tag size ok value s left at)
+fields-numbered tag size ok value s zero at =
+    subst Numbered (sym (fields-end tag size ok value s at)) (cond-numbered (leb (length s) at) good (then-numbered (repeat-numbered s at tag 0 size _) good))
+fields-numbered tag size ok value s (suc left) at =
+    subst Numbered (sym (fields-next tag size ok value s left at))
+    (cond-numbered (leb (length s) at) good
+    (then-numbered (repeat-numbered s at tag (suc left) size _) (more-numbered _ (fields-numbered tag size ok value s left (at + 3 + size)))))
+
+read-ops-numbered : (T : Table) (s : List ℕ) (left at : ℕ) → Numbered (opsFrom T s left at)
+unfolding opsFrom
+read-ops-numbered T s left at = fields-numbered 4 18 (opOk T) opAt s left at
+
+pairs-numbered : (hit : Op → Op → Bool) (number : ℕ) (T : Table) → 0 < number → Numbered (pairsTest hit number T)
+unfolding pairsTest
+pairs-numbered hit number T h =
+    each-numbered _
+    (λ i. each-numbered _ (λ j. refuse-numbered (hit (op T i) (op T j)) number i j h) (suc i) (nops T - suc i)) 0 (nops T)
+
+whole-numbered : (T : Table) → Numbered (judgeWhole T)
+unfolding judgeWhole
+whole-numbered T =
+    then-numbered (pairs-numbered clashes 6 T (omega arith)) (then-numbered (pairs-numbered races 7 T (omega arith)) (good {x = T}))
+
+judge-numbered : (s : List ℕ) → Numbered (judge s)
+judge-numbered s =
+    let head =
+    then-numbered (field-numbered s 0 1 2 _)
+    (then-numbered (field-numbered s 5 2 3 _) (then-numbered (field-numbered s 11 3 _ _) (needed-numbered s _)))
+    in
+    subst Numbered (sym (judge-row s))
+    (then-numbered (subst Numbered (sym (head-row s)) head) (onwards-numbered (read-ops-numbered _ s 32 _) (λ os. whole-numbered _)))
+
+ops-numbered : (T : Table) (ns : List ℕ) (left at : ℕ) → Numbered (opsOfNumbers T ns left at)
+unfolding opsOfNumbers
+ops-numbered T ns zero at = cond-numbered (eqb (length ns) 0) (good {x = []}) (then-numbered (many-numbered at 0) (good {x = []}))
+ops-numbered T ns (suc left) at =
+    cond-numbered (eqb (length ns) 0) (good {x = []})
+    (then-numbered (refuse-numbered (ltb (length ns) 6) 1 at 0 (omega arith))
+    (then-numbered (ranged-numbered (opOk T (opOf ns)) at) (more-numbered (opOf ns) (ops-numbered T (drop 6 ns) left (at + 21)))))
+
+numbers-numbered : (N : Numbers) → Numbered (judgeNumbers N)
+unfolding judgeNumbers numbersTest
+numbers-numbered N =
+    then-numbered
+    (then-numbered (ranged-numbered (lenOk (N .len)) 0)
+    (then-numbered (ranged-numbered (countsOk (N .boards) (N .cells) (N .modes)) 5)
+    (then-numbered (refuse-numbered (not (eqb (length (N .follow)) (N .modes))) 3 11 0 (omega arith))
+    (then-numbered (ranged-numbered (setOk (N .modes) (N .first) && eachSetOk (N .modes) (N .follow)) 11)
+    (refuse-numbered (eqb (length (N .ops)) 0) 2 (opsPlace (N .modes)) 0 (omega arith))))))
+    (onwards-numbered (ops-numbered (headOfNumbers N) (N .ops) 32 (opsPlace (N .modes))) (λ os. whole-numbered (withOps (headOfNumbers N) os)))
+
+-- ---- what a caller reads off the number
+
+zero-accepted : {A : Type 0} (v : Verdict A) → Numbered v → saidOf (unwritten v) .number ≡ 0 → (x : A) × (v ≡ accepted x)
+unfolding unwritten onwards
+zero-accepted (accepted x) good e = (x, refl)
+zero-accepted (refused number a b) (bad h) e = absurd (omega arith)
+
+-- trevozhil_judge returns 0: the table is accepted
+pub judge-zero : (s : List ℕ) (w : Said) → JudgeSays s w → w .number ≡ 0 → (T : Table) × (judge s ≡ accepted T)
+judge-zero s w e z = zero-accepted (judge s) (judge-numbered s) (sym (ap (λ (x : Said). x .number) e) ∙ z)
+
+-- trevozhil_judge_numbers likewise
+pub numbers-zero : (N : Numbers) (w : Said) → NumbersSay N w → w .number ≡ 0 → (T : Table) × (judgeNumbers N ≡ accepted T)
+numbers-zero N w e z = zero-accepted (judgeNumbers N) (numbers-numbered N) (sym (ap (λ (x : Said). x .number) e) ∙ z)
+
+-- bytes that stand in front of what the buffer held
+abbrev pub inFront : List ℕ → List ℕ → Left
+inFront bytes out = record { told = said 0 (length bytes) 0; buffer = bytes ++ drop (length bytes) out }
+
+put-zero : (bytes out : List ℕ) → saidOf (put bytes out .answer) .number ≡ 0 → leftOf (put bytes out) ≡ inFront bytes out
+put-zero bytes out z = go (decLt (length out) (length bytes))
+  where
+    go : Dec (length out < length bytes) → leftOf (put bytes out) ≡ inFront bytes out
+    go (yes h) =
+        let e : _≡_ {A = ℕ} 8 0 = sym (ap (λ (w : Written). saidOf (w .answer) .number) (put-short bytes out h)) ∙ z in
+        absurd (omega arith)
+    go (no h) = ap leftOf (put-room bytes out (omega arith))
+
+written-zero : {A : Type 0} (f : A → List ℕ) (v : Verdict A) (out : List ℕ) → Numbered v
+    → saidOf (written (bytesOf f v) out .answer) .number ≡ 0
+    → (x : A) × (v ≡ accepted x) × (leftOf (written (bytesOf f v) out) ≡ inFront (f x) out)
+unfolding written bytesOf onwards
+written-zero f (accepted x) out good z = (x, refl, put-zero (f x) out z)
+written-zero f (refused number a b) out (bad h) z = absurd (omega arith)
+
+-- trevozhil_write returns 0: the table is accepted, and its bytes are written
+pub write-zero : (N : Numbers) (out : List ℕ) (l : Left) → WriteLeaves N out l → l .told .number ≡ 0
+    → (T : Table) × (judgeNumbers N ≡ accepted T) × (l ≡ inFront (tableBytes T) out)
+write-zero N out l (w, p, e) z =
+    let same = e ∙ ap leftOf p in
+    let (T, v, f) =
+    written-zero tableBytes (judgeNumbers N) out (numbers-numbered N) (sym (ap (λ (m : Left). m .told .number) same) ∙ z)
+    in
+    (T, v, same ∙ f)

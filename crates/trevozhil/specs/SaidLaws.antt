@@ -1,0 +1,48 @@
+-- What is told of a verdict of the code is what is told of the rules' verdict.
+-- Assumes nothing.
+use mathlib.Core.Path.{_≡_, refl, ap, _∙_}
+use Prim.Native.Nat.{ℕ}
+use mathlib.Core.List.{List}
+use Rattle.rules.specs.Verdicts.{accepted, refused, onwards}
+use Rattle.rules.specs.Verdicts as rules
+use Rattle.rules.specs.Table.{Table}
+use Rattle.fields.specs.declared.Refusal.{Refusal}
+use Rattle.fields.specs.declared.Refusal.the-variants.{Short, Order, Size, Range, Many, Clash, Race, Room, Ask}
+use Rattle.fields.specs.declared.Verdict.{Verdict}
+use Rattle.fields.specs.declared.Verdict.the-variants.{Accepted, Refused}
+use Rattle.fields.specs.Verdicts.{refusalOf, verdictOn, tested}
+use Rattle.table.specs.declared.Judged.{Judged}
+use Rattle.table.specs.Tables.{JudgedAs}
+use Rattle.trevozhil.specs.declared.Said.{Said}
+use Rattle.trevozhil.specs.Said.{saidOf, unwritten, left}
+
+-- a refusal says the same, whatever would have been accepted
+refusal-unwritten : (r : Refusal) → refusalOf r ≡ unwritten (tested (Refused r))
+unfolding unwritten
+refusal-unwritten (Short at) = refl
+refusal-unwritten (Order at) = refl
+refusal-unwritten (Size at) = refl
+refusal-unwritten (Range at) = refl
+refusal-unwritten (Many at) = refl
+refusal-unwritten (Clash i j) = refl
+refusal-unwritten (Race i j) = refl
+refusal-unwritten (Room n) = refl
+refusal-unwritten (Ask place) = refl
+
+verdict-unwritten : (c : Verdict) → verdictOn c 0 ≡ unwritten (tested c)
+unfolding unwritten
+verdict-unwritten Accepted = refl
+verdict-unwritten (Refused r) = refusal-unwritten r
+
+tested-unwritten : {A : Type 0} (v : rules.Verdict A) → unwritten (onwards v (λ x. accepted (tt {0}))) ≡ unwritten v
+unfolding unwritten
+tested-unwritten (accepted x) = refl
+tested-unwritten (refused n a b) = refl
+
+-- the code's verdict with its table
+pub judged-said : {v : rules.Verdict Table} (r : Judged) → JudgedAs v r → saidOf (verdictOn (r .verdict) 0) ≡ saidOf (unwritten v)
+judged-said {v} r j = ap saidOf (verdict-unwritten (r .verdict) ∙ ap unwritten (j .said) ∙ tested-unwritten v)
+
+-- with a lent buffer
+pub left-said : {w x : Said} {buffer : List ℕ} → w ≡ x → left w buffer ≡ left x buffer
+left-said {buffer = buffer} e = ap (λ (w : Said). left w buffer) e

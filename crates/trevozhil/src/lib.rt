@@ -1,0 +1,166 @@
+// The functions for C, as include/trevozhil.h declares them.
+ghost use mathlib.Core.Path.{_≡_};
+ghost use Rattle.fields.specs.Verdicts.{refusalOf, verdictOn, answered};
+ghost use Rattle.handed.specs.Handed.{numbers};
+ghost use Rattle.trevozhil.specs.Said.{said, saidOf, left, measured, JudgeSays, NumbersSay, WriteLeaves, PeriodSays, RightSays, MarginLeaves, yesOf};
+ghost use Rattle.questions.specs.Questions as questions;
+use fields::Answer;
+use fields::Refusal;
+use fields::Verdict;
+
+// What a caller is told: the number of the refusal, or 0, and the two figures.
+pub struct Said {
+    pub number: u32,
+    pub a: u64,
+    pub b: u64,
+}
+
+fn figures(number: u32, a: usize, b: usize) -> Said
+    ensures { λ w. ⌜ w ≡ said number a b ⌝ }
+{
+    Said {
+        number,
+        a: a as u64,
+        b: b as u64,
+    }
+}
+
+fn refusal_said(r: Refusal) -> Said
+    ensures { λ w. ⌜ w ≡ saidOf (refusalOf r) ⌝ }
+{
+    match r {
+        Refusal::Short(at) => figures(1, at, 0),
+        Refusal::Order(at) => figures(2, at, 0),
+        Refusal::Size(at) => figures(3, at, 0),
+        Refusal::Range(at) => figures(4, at, 0),
+        Refusal::Many(at) => figures(5, at, 0),
+        Refusal::Clash(i, j) => figures(6, i, j),
+        Refusal::Race(i, j) => figures(7, i, j),
+        Refusal::Room(n) => figures(8, n, 0),
+        Refusal::Ask(place) => figures(9, place, 0),
+    }
+}
+
+// A verdict after which nothing is written.
+fn verdict_said(v: Verdict) -> Said
+    ensures { λ w. ⌜ w ≡ saidOf (verdictOn v 0) ⌝ }
+{
+    match v {
+        Verdict::Accepted => figures(0, 0, 0),
+        Verdict::Refused(r) => refusal_said(r),
+    }
+}
+
+// An answer with the number of bytes written.
+fn answer_said(x: Answer) -> Said
+    ensures { λ w. ⌜ w ≡ saidOf (answered x) ⌝ }
+{
+    match x {
+        Answer::Wrote(n) => figures(0, n, 0),
+        Answer::Denied(r) => refusal_said(r),
+    }
+}
+
+// The answer to "is q right": 1 for yes and 0 for no.
+fn right_said(x: questions::Said) -> Said
+    ensures { λ w. ⌜ w ≡ saidOf (yesOf (questions.saidOf x)) ⌝ }
+{
+    match x {
+        questions::Said::Right(yes) => figures(0, yes as usize, 0),
+        questions::Said::Denied(r) => refusal_said(r),
+    }
+}
+
+// Leaves the figures with the caller and returns the number.
+fn tell(w: Said, a: &mut u64, b: &mut u64) -> u32
+    ensures { λ r. ⌜ said r (now (a .exit)) (now (b .exit)) ≡ w ⌝ }
+{
+    *a = w.a;
+    *b = w.b;
+    w.number
+}
+
+// ---- the functions for C
+
+// A table's bytes, judged.
+#[no_mangle]
+pub extern "C" fn trevozhil_judge(s: &[u8], a: &mut u64, b: &mut u64) -> u32
+    ensures { λ r. ⌜ JudgeSays (now (s .entry)) (said r (now (a .exit)) (now (b .exit))) ⌝ }
+{
+    let judged = reading::read(s);
+    let verdict = judged.verdict;
+    tell(verdict_said(verdict), a, b)
+}
+
+// A table that is handed over as numbers, judged.
+#[no_mangle]
+pub extern "C" fn trevozhil_judge_numbers(
+    p: u64,
+    boards: u64,
+    cells: u64,
+    modes: u64,
+    first: u64,
+    follow: &[u64],
+    ops: &[u64],
+    a: &mut u64,
+    b: &mut u64,
+) -> u32
+    ensures { λ r. ⌜ NumbersSay (numbers p boards cells modes first (now (follow .entry)) (now (ops .entry))) (said r (now (a .exit)) (now (b .exit))) ⌝ }
+{
+    let judged = handed::judge(p, boards, cells, modes, first, follow, ops);
+    let verdict = judged.verdict;
+    tell(verdict_said(verdict), a, b)
+}
+
+// A table that is handed over as numbers, judged and written.
+#[no_mangle]
+pub extern "C" fn trevozhil_write(
+    p: u64,
+    boards: u64,
+    cells: u64,
+    modes: u64,
+    first: u64,
+    follow: &[u64],
+    ops: &[u64],
+    out: &mut [u8],
+    a: &mut u64,
+    b: &mut u64,
+) -> u32
+    ensures { λ r. ⌜ WriteLeaves (numbers p boards cells modes first (now (follow .entry)) (now (ops .entry))) (now (out .entry)) (left (said r (now (a .exit)) (now (b .exit))) (now (out .exit))) ⌝ }
+{
+    let answer = handed::write(p, boards, cells, modes, first, follow, ops, out);
+    tell(answer_said(answer), a, b)
+}
+
+// The period of a table.
+#[no_mangle]
+pub extern "C" fn trevozhil_period(s: &[u8], a: &mut u64, b: &mut u64) -> u32
+    ensures { λ r. ⌜ PeriodSays (now (s .entry)) (said r (now (a .exit)) (now (b .exit))) ⌝ }
+{
+    let answer = questions::period_of(s);
+    tell(answer_said(answer), a, b)
+}
+
+// Whether a period is right for a table.
+#[no_mangle]
+pub extern "C" fn trevozhil_is_right(s: &[u8], q: u64, a: &mut u64, b: &mut u64) -> u32
+    ensures { λ r. ⌜ RightSays (now (s .entry)) q (said r (now (a .exit)) (now (b .exit))) ⌝ }
+{
+    let answer = questions::is_right(s, q);
+    tell(right_said(answer), a, b)
+}
+
+// The margin of operations i and j at distance n and period q.
+#[no_mangle]
+pub extern "C" fn trevozhil_margin(s: &[u8], i: u64, j: u64, n: u64, q: u64, m: &mut i32, a: &mut u64, b: &mut u64) -> u32
+    ensures { λ r. ⌜ MarginLeaves (now (s .entry)) i j n q (now (m .entry)) (measured (said r (now (a .exit)) (now (b .exit))) (now (m .exit))) ⌝ }
+{
+    let answer = questions::margin(s, i, j, n, q);
+    match answer {
+        questions::Measured::Margin(z) => {
+            *m = z;
+            tell(figures(0, 0, 0), a, b)
+        }
+        questions::Measured::Denied(r) => tell(refusal_said(r), a, b),
+    }
+}

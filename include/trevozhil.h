@@ -1,0 +1,82 @@
+/*
+ * Trevozhil: tables of one measuring cycle, judged and written.
+ *
+ * Each function returns 0, or the number of a refusal. It always writes *a and *b. Of a refusal they are its two
+ * figures:
+ *
+ *   no.  name   when                                                     *a, *b
+ *   1    SHORT  the input ends inside a field's header or value          the field's offset, 0
+ *   2    ORDER  a tag that is not due, or the input ends with a needed   the offset where it was due, 0
+ *               field missing
+ *   3    SIZE   a length that is not the tag's length                    the field's offset, 0
+ *   4    RANGE  a number or set outside its range                        the field's offset, 0
+ *   5    MANY   a 33rd operation                                         its offset, 0
+ *   6    CLASH  two operations share a board and a mode and overlap      the lower and the higher operation number
+ *   7    RACE   two operations share a mode and overlap, and one writes  the lower and the higher operation number
+ *               a cell that the other reads or writes
+ *   8    ROOM   the output buffer is too short                           the bytes needed, 0
+ *   9    ASK    a number asked for is outside its range                  the place of the first bad one, 0
+ *
+ * Where the function returns 0, *a is the number of bytes that it wrote, 0 where it writes none, and *b is 0.
+ *
+ * There is an answer to every input: the bytes and numbers may be anything. What the caller sees to: each pointer is
+ * valid for as many elements as its length says, and is not null, even where that is 0; a and b are two places; and
+ * what a function writes (*a, *b, out) meets nothing else that is handed to the same call. An input is not changed.
+ * Nothing is kept from one call to the next, and there is no state, so that calls may run side by side.
+ */
+#ifndef TREVOZHIL_H
+#define TREVOZHIL_H
+
+#include <stddef.h>
+#include <stdint.h>
+
+#ifdef __cplusplus
+extern "C" {
+#endif
+
+#define TREVOZHIL_SHORT 1
+#define TREVOZHIL_ORDER 2
+#define TREVOZHIL_SIZE 3
+#define TREVOZHIL_RANGE 4
+#define TREVOZHIL_MANY 5
+#define TREVOZHIL_CLASH 6
+#define TREVOZHIL_RACE 7
+#define TREVOZHIL_ROOM 8
+#define TREVOZHIL_ASK 9
+
+/* The longest table has this many bytes. */
+#define TREVOZHIL_LONGEST_TABLE 818
+
+/*
+ * Judges a table's bytes: the s_len bytes at s.
+ * Answers 0 where the table is accepted, or a refusal from 1 to 7. Writes nothing but *a and *b.
+ */
+uint32_t trevozhil_judge(const uint8_t *s, size_t s_len, uint64_t *a, uint64_t *b);
+
+/*
+ * Judges a table that is handed over as numbers, as if it was first written as bytes and then read: p is its length in
+ * ticks; then the counts of boards, cells and modes; first, the set of first modes; follow, for each mode the set of
+ * modes that may follow; ops, six numbers for each operation: start, duration, boards, reads, writes, modes. Bit m of a
+ * set says whether m is a member.
+ * Answers 0 where the table is accepted, or a refusal from 1 to 7. A count of follower words that is not the count of
+ * modes is SIZE, a number that is too large for its field RANGE, and an operation with numbers missing SHORT; each
+ * offset is the one that the field would have in the bytes. Writes nothing but *a and *b.
+ */
+uint32_t trevozhil_judge_numbers(uint64_t p, uint64_t boards, uint64_t cells, uint64_t modes, uint64_t first,
+                                 const uint64_t *follow, size_t follow_len, const uint64_t *ops, size_t ops_len,
+                                 uint64_t *a, uint64_t *b);
+
+/*
+ * Writes the bytes of a table that is handed over as numbers, as above, to out, which has room for out_len bytes.
+ * Answers 0 where they are written, or a refusal from 1 to 8; ROOM comes last. Where it answers 0 the first *a bytes of
+ * out are the table's, and the others are as they were. Where it refuses, every byte of out is as it was.
+ */
+uint32_t trevozhil_write(uint64_t p, uint64_t boards, uint64_t cells, uint64_t modes, uint64_t first,
+                         const uint64_t *follow, size_t follow_len, const uint64_t *ops, size_t ops_len, uint8_t *out,
+                         size_t out_len, uint64_t *a, uint64_t *b);
+
+#ifdef __cplusplus
+}
+#endif
+
+#endif
