@@ -5,16 +5,20 @@
 //! compare it in the draw that has its inputs (or in one more draw).
 
 use crate::generate::{self, Seed};
-use crate::judge::{judge, judge_numbers, write_table, Numbers, Refusal};
+use crate::answers::is_right;
+use crate::judge::{bytes_of, judge, judge_numbers, write_table, Numbers, Refusal, Table};
 use crate::library::{self, Said};
+use crate::runs::period;
 use crate::selftest::{from_hex, K1};
 
 /// The functions that are compared, each with the numbers that have to be met: 0
 /// for success, and each refusal that the function can give.
-const FUNCTIONS: [(&str, &[usize]); 3] = [
+const FUNCTIONS: [(&str, &[usize]); 5] = [
     ("judge", &[0, 1, 2, 3, 4, 5, 6, 7]),
     ("judge_numbers", &[0, 1, 2, 3, 4, 5, 6, 7]),
     ("write", &[0, 1, 2, 3, 4, 5, 6, 7, 8]),
+    ("period", &[0, 1, 2, 3, 4, 5, 6, 7]),
+    ("is_right", &[0, 1, 2, 3, 4, 5, 6, 7, 9]),
 ];
 
 /// Success and the refusals, by their numbers.
@@ -182,9 +186,50 @@ fn compare_judge(bytes: &[u8], findings: &mut Findings) {
     findings.note("judge", || hex(bytes), &library, &planner);
 }
 
+/// A call that lends nothing but the input, beside the planner's answer to it.
+fn compare_question(
+    name: &str,
+    bytes: &[u8],
+    call: impl FnOnce(&mut [u8]) -> Said,
+    answer: Result<usize, Refusal>,
+    findings: &mut Findings,
+) {
+    let mut copy = bytes.to_vec();
+    let said = call(&mut copy);
+    let library = Seen {
+        said,
+        kept: copy == bytes,
+        memory: Vec::new(),
+    };
+    let planner = planned(answer, Vec::new());
+    findings.note(name, || hex(bytes), &library, &planner);
+}
+
+fn compare_period(bytes: &[u8], findings: &mut Findings) {
+    let answer = judge(bytes).map(|table| period(&table) as usize);
+    compare_question("period", bytes, library::period, answer, findings);
+}
+
+fn compare_is_right(bytes: &[u8], q: u64, findings: &mut Findings) {
+    let answer = is_right(bytes, q).map(|yes| yes as usize);
+    compare_question("is_right", bytes, |s| library::is_right(s, q), answer, findings);
+}
+
 fn draw_bytes(seed: &mut Seed, findings: &mut Findings) {
     let bytes = generate::table_bytes(seed);
     compare_judge(&bytes, findings);
+    // whole tables have draws of their own; here it is the damaged ones
+    if judge(&bytes).is_err() {
+        compare_period(&bytes, findings);
+        compare_is_right(&bytes, generate::period_question(seed, 1000), findings);
+    }
+}
+
+/// An accepted table: its period, and whether some period is right.
+fn draw_period(table: &Table, seed: &mut Seed, findings: &mut Findings) {
+    let bytes = bytes_of(table);
+    compare_period(&bytes, findings);
+    compare_is_right(&bytes, generate::period_question(seed, table.len), findings);
 }
 
 /// K1 with each byte changed to each other value, and K1 cut at every length.
@@ -260,12 +305,26 @@ pub fn against(count: u64, mut seed: Seed) -> bool {
         let draw = DRAWS[turn as usize % DRAWS.len()];
         draw(&mut seed, &mut findings);
     }
+    for _ in 0..count / 2 {
+        let table = generate::small(&mut seed);
+        draw_period(&table, &mut seed, &mut findings);
+    }
+    for turn in 0..count / 100 {
+        let table = match turn % 2 {
+            0 => generate::large(&mut seed),
+            _ => generate::largest(&mut seed),
+        };
+        draw_period(&table, &mut seed, &mut findings);
+    }
     findings.print();
     let missed = findings.missed();
     missed.iter().for_each(|line| println!("{}", line));
     println!(
-        "{} inputs drawn, {} answers differ",
-        count, findings.differences
+        "{} inputs, {} small tables and {} large ones drawn, {} answers differ",
+        count,
+        count / 2,
+        count / 100,
+        findings.differences
     );
     findings.differences == 0 && missed.is_empty()
 }

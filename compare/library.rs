@@ -35,6 +35,16 @@ mod c {
             a: *mut u64,
             b: *mut u64,
         ) -> u32;
+
+        pub fn trevozhil_period(s: *const u8, s_len: usize, a: *mut u64, b: *mut u64) -> u32;
+
+        pub fn trevozhil_is_right(
+            s: *const u8,
+            s_len: usize,
+            q: u64,
+            a: *mut u64,
+            b: *mut u64,
+        ) -> u32;
     }
 }
 
@@ -85,4 +95,14 @@ pub fn write(n: &mut Numbers, out: &mut [u8]) -> Said {
             out_len, a, b,
         )
     })
+}
+
+pub fn period(bytes: &mut [u8]) -> Said {
+    let (s, s_len) = (bytes.as_mut_ptr(), bytes.len());
+    said(|a, b| unsafe { c::trevozhil_period(s, s_len, a, b) })
+}
+
+pub fn is_right(bytes: &mut [u8], q: u64) -> Said {
+    let (s, s_len) = (bytes.as_mut_ptr(), bytes.len());
+    said(|a, b| unsafe { c::trevozhil_is_right(s, s_len, q, a, b) })
 }

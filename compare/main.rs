@@ -5,7 +5,7 @@
 //!   cross --count N --seed S     all runs of tiny tables against walks
 //!   plan                         hexadecimal bytes on standard input to text
 //!   stats --count N --seed S     how often each refusal is met
-//!   speed --count N --seed S     the time of the period search on largest tables
+//!   speed --count N --seed S     the time of the library's period search on largest tables, and of a simple planner's
 
 mod against;
 mod answers;
@@ -14,6 +14,7 @@ mod judge;
 mod library;
 mod runs;
 mod selftest;
+mod simple;
 
 use generate::Seed;
 use judge::{bytes_of, judge, write_table, Refusal, Table};
@@ -57,7 +58,7 @@ fn command(args: &[String], count: Option<u64>, seed: Seed) -> bool {
         Some("cross") => cross_command(some, seed),
         Some("plan") => plan_command(),
         Some("stats") => stats_command(some, seed),
-        Some("speed") => speed_command(some, seed),
+        Some("speed") => speed_command(count.unwrap_or(200), seed),
         _ => usage(),
     }
 }
@@ -256,45 +257,59 @@ fn stats_command(count: u64, mut seed: Seed) -> bool {
 
 // ---- speed --------------------------------------------------------------
 
-/// The time of `period` on drawn largest tables and on one that is hard.
-fn speed_command(count: u64, mut seed: Seed) -> bool {
-    let (mut slowest, mut total, mut ops, mut sum) = (0.0_f64, 0.0, 0, 0);
-    let mut spread = [0; 11];
-    for _ in 0..count {
-        let table = generate::largest(&mut seed);
-        let begin = Instant::now();
-        let q = runs::period(&table);
-        let time = begin.elapsed().as_secs_f64();
-        slowest = slowest.max(time);
-        total += time;
-        ops += table.ops.len() as u64;
-        sum += q;
-        spread[(q / 100) as usize] += 1;
-    }
-    let tables = count.max(1);
-    println!(
-        "{} tables, {} operations, mean period {}",
-        count,
-        ops,
-        sum / tables
-    );
-    println!("periods by hundreds {:?}", spread);
-    println!(
-        "mean {:.6} s, slowest {:.6} s",
-        total / tables as f64,
-        slowest
-    );
-    println!("a hard table: {:.3} s", hard_table_time());
-    true
+/// The mean and the worst of some times.
+#[derive(Default)]
+struct Times {
+    count: u64,
+    total: f64,
+    worst: f64,
 }
 
-/// The time of `period` on the hard table.
-fn hard_table_time() -> f64 {
-    let table = hard_table();
-    assert!(judge(&bytes_of(&table)).is_ok());
-    let begin = Instant::now();
-    assert!(runs::period(&table) == table.len);
-    begin.elapsed().as_secs_f64()
+impl Times {
+    fn take(&mut self, call: impl FnOnce() -> u64) -> u64 {
+        let begin = Instant::now();
+        let answer = call();
+        let time = begin.elapsed().as_secs_f64();
+        self.count += 1;
+        self.total += time;
+        self.worst = self.worst.max(time);
+        answer
+    }
+
+    fn print(&self, name: &str) {
+        let mean = self.total / self.count.max(1) as f64;
+        println!("{:<8} mean {:.6} s, worst {:.6} s", name, mean, self.worst);
+    }
+}
+
+/// The library's period of a table's bytes, on a stack of 64 KiB.
+fn period_on_small_stack(mut bytes: Vec<u8>) -> u64 {
+    let thread = std::thread::Builder::new().stack_size(64 * 1024);
+    let work = thread.spawn(move || library::period(&mut bytes).a);
+    work.expect("a thread").join().expect("an answer")
+}
+
+/// The time of the period search on drawn largest tables (p 1000, 32 operations, 32 modes) and on one that is hard: the
+/// library, and the simple planner, which must agree. Each table is also planned on a stack of 64 KiB.
+fn speed_command(count: u64, mut seed: Seed) -> bool {
+    let (mut quick, mut simple) = (Times::default(), Times::default());
+    let mut spread = [0; 11];
+    let mut same = true;
+    let tables = (0..count).map(|_| generate::largest(&mut seed));
+    let tables: Vec<Table> = tables.chain(std::iter::once(hard_table())).collect();
+    for table in &tables {
+        let mut bytes = bytes_of(table);
+        let q = quick.take(|| library::period(&mut bytes).a);
+        same &= q == simple.take(|| simple::period(table));
+        same &= q == period_on_small_stack(bytes);
+        spread[(q / 100) as usize] += 1;
+    }
+    println!("{} tables, periods by hundreds {:?}", tables.len(), spread);
+    quick.print("library");
+    simple.print("simple");
+    println!("the library is {:.1} times as quick", simple.total / quick.total);
+    println!("{}", if same { "all agree" } else { "they differ" });
+    same
 }
 
 /// One tick on a board, in half of the modes.

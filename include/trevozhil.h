@@ -1,5 +1,5 @@
 /*
- * Trevozhil: tables of one measuring cycle, judged and written.
+ * Trevozhil: tables of one measuring cycle, judged, written and asked about.
  *
  * Each function returns 0, or the number of a refusal. It always writes *a and *b. Of a refusal they are its two
  * figures:
@@ -17,7 +17,8 @@
  *   8    ROOM   the output buffer is too short                           the bytes needed, 0
  *   9    ASK    a number asked for is outside its range                  the place of the first bad one, 0
  *
- * Where the function returns 0, *a is the number of bytes that it wrote, 0 where it writes none, and *b is 0.
+ * Where the function returns 0, *a is the number of bytes that it wrote, or what was asked for, or 0 where neither is
+ * said below, and *b is 0.
  *
  * There is an answer to every input: the bytes and numbers may be anything. What the caller sees to: each pointer is
  * valid for as many elements as its length says, and is not null, even where that is 0; a and b are two places; and
@@ -74,6 +75,19 @@ uint32_t trevozhil_judge_numbers(uint64_t p, uint64_t boards, uint64_t cells, ui
 uint32_t trevozhil_write(uint64_t p, uint64_t boards, uint64_t cells, uint64_t modes, uint64_t first,
                          const uint64_t *follow, size_t follow_len, const uint64_t *ops, size_t ops_len, uint8_t *out,
                          size_t out_len, uint64_t *a, uint64_t *b);
+
+/*
+ * The period of a table: the smallest at which the next cycle may start, for every run of modes.
+ * Answers 0 with the period in *a, or a refusal from 1 to 7.
+ */
+uint32_t trevozhil_period(const uint8_t *s, size_t s_len, uint64_t *a, uint64_t *b);
+
+/*
+ * Whether q is a right period of a table.
+ * Answers 0 with 1 (it is) or 0 (it is not) in *a, or a refusal from 1 to 7, or ASK where q is not from 1 to the table's
+ * length; ASK comes last.
+ */
+uint32_t trevozhil_is_right(const uint8_t *s, size_t s_len, uint64_t q, uint64_t *a, uint64_t *b);
 
 #ifdef __cplusplus
 }

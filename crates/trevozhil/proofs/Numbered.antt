@@ -3,7 +3,7 @@
 use Prim.Native.Nat.{ℕ, zero, suc, _+_, _-_, _<_}
 use mathlib.Core.Path.{_≡_, refl, sym, ap, subst, _∙_}
 use mathlib.Core.Bool.{Bool, true, false, cond, not, _&&_}
-use mathlib.Core.List.{List, [], _∷_, _++_}
+use mathlib.Core.List.{List, [], _++_}
 use native.Mathlib.Omega.{arith}
 use native.Mathlib.Decide.{decLt}
 use lib.Dec.{leb, ltb, eqb}
@@ -11,7 +11,7 @@ use lib.ListN.{length, drop}
 use Rattle.rules.specs.Table.{Op, Table, nops, op}
 use Rattle.rules.specs.Verdicts.{Verdict, accepted, refused, Test, refuseIf, _then_, onwards, more, each}
 use Rattle.rules.specs.Bytes.{num8, num16, opAt, tableBytes}
-use Rattle.rules.specs.Judge.{needed, header, due, notMany, sized, complete, ranged, fieldTest, repeatTest, fieldsFrom, pairsTest, judgeWhole, headTest, opsFrom, judge, Numbers, numbersTest, opOf, opsOfNumbers, judgeNumbers, opOk, clashes, races, lenOk, countsOk, setOk, eachSetOk, opsPlace, headOfNumbers, withOps}
+use Rattle.rules.specs.Judge.{needed, header, due, notMany, sized, complete, ranged, fieldTest, repeatTest, fieldsFrom, pairsTest, judgeWhole, opsFrom, judge, Numbers, numbersTest, opOf, opsOfNumbers, judgeNumbers, opOk, clashes, races, lenOk, countsOk, setOk, eachSetOk, opsPlace, headOfNumbers, withOps}
 use Rattle.rules.specs.Answers.{Written, put, written, bytesOf}
 use Rattle.theory.proofs.Answering.{put-room, put-short}
 use Rattle.theory.proofs.Judging.{field-row, repeat-row, fields-end, fields-next, head-row, judge-row}

@@ -4,14 +4,13 @@ use Prim.Native.Nat.{ℕ}
 use mathlib.Core.Path.{_≡_, sym, ap, _∙_}
 use mathlib.Core.List.{List}
 use mathlib.Core.Bool.{Bool}
-use lib.IntN.{ℤ}
 use Rattle.rules.specs.Runs.{IsPeriod}
 use Rattle.rules.specs.Verdicts.{Verdict}
 use Rattle.rules.specs.Judge.{judge, Numbers}
 use Rattle.theory.proofs.Period.{period-unique}
-use Rattle.theory.proofs.Answering.{answers-unique, write-unique, margin-unique, right-unique}
+use Rattle.theory.proofs.Answering.{answers-unique, write-unique, right-unique}
 use Rattle.trevozhil.specs.declared.Said.{Said}
-use Rattle.trevozhil.specs.Said.{Left, leftOf, saidOf, yesOf, Measured, measuredOf, JudgeSays, NumbersSay, WriteLeaves, PeriodSays, RightSays, MarginLeaves}
+use Rattle.trevozhil.specs.Said.{Left, leftOf, saidOf, yesOf, JudgeSays, NumbersSay, WriteLeaves, PeriodSays, RightSays}
 
 pub judge-one : (s : List ℕ) (w x : Said) → JudgeSays s w → JudgeSays s x → w ≡ x
 judge-one s w x e f = e ∙ sym f
@@ -28,7 +27,3 @@ period-one s w x (v, p, e) (u, q, f) =
 
 pub right-one : (s : List ℕ) (q : ℕ) (w x : Said) → RightSays s q w → RightSays s q x → w ≡ x
 right-one s q w x (v, p, e) (u, r, f) = e ∙ ap (λ (y : Verdict Bool). saidOf (yesOf y)) (right-unique s q v u p r) ∙ sym f
-
-pub margin-one : (s : List ℕ) (i j n q : ℕ) (before : ℤ) (l m : Measured) → MarginLeaves s i j n q before l → MarginLeaves s i j n q before m → l ≡ m
-margin-one s i j n q before l m (v, p, e) (u, r, f) =
-    e ∙ ap (λ (y : Verdict ℤ). measuredOf y before) (margin-unique s i j n q v u p r) ∙ sym f

@@ -4,11 +4,10 @@ use Prim.Native.Nat.{ℕ}
 use mathlib.Core.Path.{_≡_}
 use mathlib.Core.Bool.{Bool, cond}
 use mathlib.Core.List.{List}
-use lib.IntN.{ℤ}
 use Rattle.rules.specs.Runs.{IsPeriod}
 use Rattle.rules.specs.Verdicts.{Verdict, accepted, refused, onwards}
 use Rattle.rules.specs.Judge.{judge, Numbers, judgeNumbers}
-use Rattle.rules.specs.Answers.{Written, Answers, IsWrite, IsRight, IsMargin}
+use Rattle.rules.specs.Answers.{Written, Answers, IsWrite, IsRight}
 use Rattle.trevozhil.specs.declared.Said.{Said}
 
 -- the number that is returned, and what a and b hold then
@@ -62,20 +61,3 @@ PeriodSays s w = (v : Verdict ℕ) × Answers IsPeriod (judge s) v × (w ≡ sai
 -- trevozhil_is_right: a is 1 where q is right and 0 where it is not
 abbrev pub RightSays : List ℕ → ℕ → Said → Type 0
 RightSays s q w = (v : Verdict Bool) × IsRight s q v × (w ≡ saidOf (yesOf v))
-
--- what is told, and what the lent number holds then
-pub record Measured : Type 0 where
-  pub told : Said
-  pub margin : ℤ
-
-abbrev pub measured : Said → ℤ → Measured
-measured told margin = record { told = told; margin = margin }
-
--- the margin, and the number as it was on a refusal
-unfoldable pub measuredOf : Verdict ℤ → ℤ → Measured
-measuredOf (accepted z) before = measured (said 0 0 0) z
-measuredOf (refused number a b) before = measured (said number a b) before
-
--- trevozhil_margin, with a lent number
-abbrev pub MarginLeaves : List ℕ → ℕ → ℕ → ℕ → ℕ → ℤ → Measured → Type 0
-MarginLeaves s i j n q before l = (v : Verdict ℤ) × IsMargin s i j n q v × (l ≡ measuredOf v before)

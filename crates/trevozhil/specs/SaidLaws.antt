@@ -2,6 +2,7 @@
 -- Assumes nothing.
 use mathlib.Core.Path.{_≡_, refl, ap, _∙_}
 use Prim.Native.Nat.{ℕ}
+use mathlib.Core.Bool.{Bool}
 use mathlib.Core.List.{List}
 use Rattle.rules.specs.Verdicts.{accepted, refused, onwards}
 use Rattle.rules.specs.Verdicts as rules
@@ -13,8 +14,9 @@ use Rattle.fields.specs.declared.Verdict.the-variants.{Accepted, Refused}
 use Rattle.fields.specs.Verdicts.{refusalOf, verdictOn, tested}
 use Rattle.table.specs.declared.Judged.{Judged}
 use Rattle.table.specs.Tables.{JudgedAs}
+use Rattle.table.specs.JudgedLaws.{refusal-is}
 use Rattle.trevozhil.specs.declared.Said.{Said}
-use Rattle.trevozhil.specs.Said.{saidOf, unwritten, left}
+use Rattle.trevozhil.specs.Said.{saidOf, unwritten, left, yesOf}
 
 -- a refusal says the same, whatever would have been accepted
 refusal-unwritten : (r : Refusal) → refusalOf r ≡ unwritten (tested (Refused r))
@@ -46,3 +48,8 @@ judged-said {v} r j = ap saidOf (verdict-unwritten (r .verdict) ∙ ap unwritten
 -- with a lent buffer
 pub left-said : {w x : Said} {buffer : List ℕ} → w ≡ x → left w buffer ≡ left x buffer
 left-said {buffer = buffer} e = ap (λ (w : Said). left w buffer) e
+
+-- a refusal of a question says the same as one of a table
+pub refusal-yes : (r : Refusal) → saidOf (refusalOf r) ≡ saidOf (yesOf (refusalOf r))
+unfolding yesOf onwards
+refusal-yes r = let (n, a, b, x, y) = refusal-is {A = ℕ} {B = Bool} r in rw (x, y)

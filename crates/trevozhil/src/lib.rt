@@ -1,8 +1,9 @@
 // The functions for C, as include/trevozhil.h declares them.
 ghost use mathlib.Core.Path.{_≡_};
+ghost use mathlib.Core.Bool.{cond};
 ghost use Rattle.fields.specs.Verdicts.{refusalOf, verdictOn, answered};
 ghost use Rattle.handed.specs.Handed.{numbers};
-ghost use Rattle.trevozhil.specs.Said.{said, saidOf, left, measured, JudgeSays, NumbersSay, WriteLeaves, PeriodSays, RightSays, MarginLeaves, yesOf};
+ghost use Rattle.trevozhil.specs.Said.{said, saidOf, left, yesOf, JudgeSays, NumbersSay, WriteLeaves, PeriodSays, RightSays};
 ghost use Rattle.questions.specs.Questions as questions;
 use fields::Answer;
 use fields::Refusal;
@@ -61,12 +62,22 @@ fn answer_said(x: Answer) -> Said
     }
 }
 
-// The answer to "is q right": 1 for yes and 0 for no.
+// 1 for yes and 0 for no.
+fn yes_said(yes: bool) -> Said
+    ensures { λ w. ⌜ w ≡ said 0 (cond yes 1 0) 0 ⌝ }
+{
+    if yes {
+        return figures(0, 1, 0);
+    }
+    figures(0, 0, 0)
+}
+
+// The answer to "is q right".
 fn right_said(x: questions::Said) -> Said
     ensures { λ w. ⌜ w ≡ saidOf (yesOf (questions.saidOf x)) ⌝ }
 {
     match x {
-        questions::Said::Right(yes) => figures(0, yes as usize, 0),
+        questions::Said::Right(yes) => yes_said(yes),
         questions::Said::Denied(r) => refusal_said(r),
     }
 }
@@ -148,19 +159,4 @@ pub extern "C" fn trevozhil_is_right(s: &[u8], q: u64, a: &mut u64, b: &mut u64)
 {
     let answer = questions::is_right(s, q);
     tell(right_said(answer), a, b)
-}
-
-// The margin of operations i and j at distance n and period q.
-#[no_mangle]
-pub extern "C" fn trevozhil_margin(s: &[u8], i: u64, j: u64, n: u64, q: u64, m: &mut i32, a: &mut u64, b: &mut u64) -> u32
-    ensures { λ r. ⌜ MarginLeaves (now (s .entry)) i j n q (now (m .entry)) (measured (said r (now (a .exit)) (now (b .exit))) (now (m .exit))) ⌝ }
-{
-    let answer = questions::margin(s, i, j, n, q);
-    match answer {
-        questions::Measured::Margin(z) => {
-            *m = z;
-            tell(figures(0, 0, 0), a, b)
-        }
-        questions::Measured::Denied(r) => tell(refusal_said(r), a, b),
-    }
 }
