@@ -17,7 +17,7 @@ boards-right-requires : tie.Need-boards-right-requires
 boards-right-requires c κs = search needs
 
 returns : tie.Need-returns
-returns c = 
+returns c =
     let a = c .before .before in
     let s = a .before in
     let said = boards-said (tableOf (s .args .t)) (s .pre .0 .accepted) (a .reached .result) (a .reached .ensures) (s .args .q) (s .pre .1) in

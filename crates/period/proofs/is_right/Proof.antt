@@ -11,16 +11,15 @@ values-arrive-requires : tie.Need-values-arrive-requires
 values-arrive-requires c κs = search needs
 
 returns : tie.Need-returns
-returns c = 
+returns c =
     (λ e. absurd (false≢true e), λ x. absurd (false≢true (sym (not-true _ (c .if1 .taken)) ∙ c .before .values-arrive .ensures .1 (x .values))))
 
 boards-fit-requires : tie.Need-boards-fit-requires
 boards-fit-requires c κs = search needs
 
 returns-2 : tie.Need-returns-2
-returns-2 c = 
-    let v = c .before .before .values-arrive in
-    (
+returns-2 c =
+    let v = c .before .before .values-arrive in (
       λ e. record { boards = c .boards-fit .ensures .0 e; values = v .ensures .0 (not-false _ (c .before .if1 .left)) },
       λ x. c .boards-fit .ensures .1 (x .boards),
     )

@@ -27,7 +27,7 @@ values-bound-requires : tie.Need-values-bound-requires Inv-loop μ-loop
 values-bound-requires c κs = search needs
 
 loop-holds : tie.Need-loop-holds Inv-loop μ-loop
-loop-holds c = 
+loop-holds c =
     let r = c .before .before in
     let s = r .before in
     passed-first (tableOf (s .args .t)) (s .pre .accepted) (r .reached .result) (r .reached .ensures) (c .values-bound .result) (c .values-bound .ensures)
@@ -35,8 +35,7 @@ loop-holds c =
 boards-right-requires : tie.Need-boards-right-requires Inv-loop μ-loop
 boards-right-requires c κs =
     let v = c .before in
-    let s = v .before .before .before in
-    (
+    let s = v .before .before .before in (
       s .pre,
       v .before .first-block .ensures,
       omega (arith, v .values-bound .ensures .low, c .loop .inv .low),

@@ -14,7 +14,7 @@ values-bound-requires : tie.Need-values-bound-requires
 values-bound-requires c κs = search needs
 
 returns : tie.Need-returns
-returns c = 
+returns c =
     let a = c .before in
     let s = a .before in
     let said = values-said (tableOf (s .args .t)) (s .pre .0 .accepted) (a .reached .result) (a .reached .ensures) (c .values-bound .result) (s .args .q) (c .values-bound .ensures) (s .pre .1) in

@@ -20,19 +20,19 @@ enum-told : tie.Need-enum-told
 enum-told c = search needs
 
 margin-of-requires : tie.Need-margin-of-requires
-margin-of-requires c κs = 
+margin-of-requires c κs =
     let read = c .before .before .read in
     let took = judged-accepted (judge _) (read .result) (read .ensures) (c .enum-told .given .1) in
     took-good took (judge-accepted _ (took .table) (took .said))
 
 returns : tie.Need-returns
-returns c = 
+returns c =
     let verdict = c .before in
     let read = verdict .before .before .read in
     refused-on _ (verdict .verdict .given .0 .0) (judged-refused (judge _) (read .result) (verdict .verdict .given .0 .0) (read .ensures) (verdict .verdict .given .1))
 
 returns-2 : tie.Need-returns-2
-returns-2 c = 
+returns-2 c =
     let told = c .before in
     let read = told .before .before .read in
     let took = judged-accepted (judge _) (read .result) (read .ensures) (told .enum-told .given .1) in

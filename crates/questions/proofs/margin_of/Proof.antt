@@ -17,7 +17,7 @@ use Rattle.questions.proofs.margin_of.Statement.{statement}
 use Rattle.questions.proofs.margin_of.Tie as tie
 
 returns : tie.Need-returns
-returns c = 
+returns c =
     let s = c .before in
     let a = s .args in
     let T = tableOf (a .t1) in
@@ -25,7 +25,7 @@ returns c =
     sym (ask-i T (a .i) (a .j) (a .n) (a .q) _ h)
 
 returns-2 : tie.Need-returns-2
-returns-2 c = 
+returns-2 c =
     let s = c .before .before in
     let a = s .args in
     let T = tableOf (a .t1) in
@@ -34,7 +34,7 @@ returns-2 c =
     sym (ask-j T (a .i) (a .j) (a .n) (a .q) _ hi h)
 
 returns-3 : tie.Need-returns-3
-returns-3 c = 
+returns-3 c =
     let s = c .before .before .before in
     let a = s .args in
     let T = tableOf (a .t1) in
@@ -44,7 +44,7 @@ returns-3 c =
     sym (ask-n-low T (a .i) (a .j) (a .n) (a .q) _ hi hj h)
 
 returns-4 : tie.Need-returns-4
-returns-4 c = 
+returns-4 c =
     let s = c .before .before .before .before in
     let a = s .args in
     let T = tableOf (a .t1) in
@@ -55,7 +55,7 @@ returns-4 c =
     sym (ask-n-high T (a .i) (a .j) (a .n) (a .q) _ hi hj nl h)
 
 returns-5 : tie.Need-returns-5
-returns-5 c = 
+returns-5 c =
     let s = c .before .before .before .before .before in
     let a = s .args in
     let T = tableOf (a .t1) in
@@ -70,7 +70,7 @@ cast-if6 : tie.Need-cast-if6
 cast-if6 c = search needs
 
 returns-6 : tie.Need-returns-6
-returns-6 c = 
+returns-6 c =
     let s = c .before .before .before .before .before .before in
     let a = s .args in
     let T = tableOf (a .t1) in
@@ -101,13 +101,12 @@ cast-measure-2 : tie.Need-cast-measure-2
 cast-measure-2 c = search needs
 
 measure-requires : tie.Need-measure-requires
-measure-requires c κs = 
+measure-requires c κs =
     let s = c .before .before .before .before .before .before .before .before in
     let a = s .args in
     let high = s .pre .accepted .len-high in
     let hi : a .i < a .t1 .count = omega arith in
-    let hj : a .j < a .t1 .count = omega arith in
-    (
+    let hj : a .j < a .t1 .count = omega arith in (
       omega arith,
       omega arith,
       omega (arith, good-op (a .t1) (s .pre) (a .i) hi .fits),
@@ -115,7 +114,7 @@ measure-requires c κs =
     )
 
 returns-7 : tie.Need-returns-7
-returns-7 c = 
+returns-7 c =
     let s = c .before .before .before .before .before .before .before .before .before in
     let a = s .args in
     let T = tableOf (a .t1) in

@@ -27,14 +27,14 @@ cast-result-2 : tie.Need-cast-result-2
 cast-result-2 c = search needs
 
 sub-result : tie.Need-sub-result
-sub-result c = 
+sub-result c =
     let s = c .before .before in
     let a : s .args .n * s .args .q + s .args .u .start < 2 ^ 31 = omega (arith, mul-le-mul (s .pre .0) (s .pre .1), s .pre .3) in
     let b : s .args .o .start + s .args .o .dur < 2 ^ 31 = omega (arith, s .pre .2) in
     rw (toZ-pos w32 a, toZ-pos w32 b) (record { sfits = mag-diff _ _ (2 ^ 31) a b })
 
 returns : tie.Need-returns
-returns c = 
+returns c =
     let s = c .before .before in
     let a : s .args .n * s .args .q + s .args .u .start < 2 ^ 31 = omega (arith, mul-le-mul (s .pre .0) (s .pre .1), s .pre .3) in
     let b : s .args .o .start + s .args .o .dur < 2 ^ 31 = omega (arith, s .pre .2) in

@@ -23,7 +23,7 @@ enum-told : tie.Need-enum-told
 enum-told c = search needs
 
 smallest-requires : tie.Need-smallest-requires
-smallest-requires c κs = 
+smallest-requires c κs =
     let read = c .before .before .read in
     let took = judged-accepted (judge _) (read .result) (read .ensures) (c .enum-told .given .1) in
     took-good took (judge-accepted _ (took .table) (took .said))
@@ -32,14 +32,14 @@ cast-t7 : tie.Need-cast-t7
 cast-t7 c = search needs
 
 returns : tie.Need-returns
-returns c = 
+returns c =
     let verdict = c .before in
     let read = verdict .before .before .read in
     refused-answers _ (verdict .verdict .given .0 .0) (judged-refused (judge _) (read .result) (verdict .verdict .given .0 .0) (read .ensures) (verdict .verdict .given .1))
 
 returns-2 : tie.Need-returns-2
 unfolding Answers
-returns-2 c = 
+returns-2 c =
     let told = c .before in
     let read = told .before .before .read in
     let took = judged-accepted (judge _) (read .result) (read .ensures) (told .enum-told .given .1) in

@@ -15,7 +15,7 @@ use Rattle.questions.proofs.right_of.Tie as tie
 
 returns : tie.Need-returns
 unfolding Answers
-returns c = 
+returns c =
     let a = c .before .args in
     let e = then-refuses (accepted (tableOf (a .t))) (period-low (tableOf (a .t)) (a .q) 0 (c .if1 .taken)) in
     subst⁻¹ (λ (u : Verdict Table). Answers (RightSaid (a .q)) u (refused ASK 0 0)) e refl
@@ -25,7 +25,7 @@ cast-if2 c = search needs
 
 returns-2 : tie.Need-returns-2
 unfolding Answers
-returns-2 c = 
+returns-2 c =
     let a = c .before .before .before .args in
     let l : 1 ≤ a .q = omega arith in
     let h : a .t .len < a .q = omega arith in
@@ -40,7 +40,7 @@ is-right-requires c κs = search needs
 
 returns-3 : tie.Need-returns-3
 unfolding Answers
-returns-3 c = 
+returns-3 c =
     let a = c .before .before .before .before .args in
     let l : 1 ≤ a .q = omega arith in
     let h : a .q ≤ a .t .len = omega arith in

@@ -16,7 +16,7 @@ div-t7 : tie.Need-div-t7
 div-t7 c = search needs
 
 returns : tie.Need-returns
-returns c = 
+returns c =
     let a = c .args .t .0 in
     let q = c .args .q .0 in
     let e : a % q ≡ a - a / q * q = omega (arith, div-add-mod' a q) in

@@ -15,7 +15,7 @@ tell-requires : tie.Need-tell-requires
 tell-requires c κs = search needs
 
 returns : tie.Need-returns
-returns c = 
+returns c =
     let x = c .before .before .before in
     (_, x .before .is-right .ensures, c .tell .ensures ∙ x .right-said .ensures)
 
