@@ -1,11 +1,9 @@
 -- The tests of a field without its ranges.
 -- Assumes nothing.
 use Prim.Native.Nat.{ℕ}
-use mathlib.Core.Path.{_≡_, refl}
-use mathlib.Core.Bool.{Bool}
 use mathlib.Core.List.{List}
 use Rattle.rules.specs.Verdicts.{Test, _then_}
-use Rattle.rules.specs.Judge.{needed, header, due, notMany, sized, complete, ranged, fieldTest, repeatTest}
+use Rattle.rules.specs.Judge.{needed, header, due, notMany, sized, complete}
 
 unfoldable pub sizedOf : List ℕ → ℕ → ℕ → Test
 sizedOf s at size = sized s at size then complete s at size

@@ -1,22 +1,18 @@
 -- The judgement of the pairs, and how many operations a table has.
 -- Assumes nothing.
-use Prim.Native.Nat.{ℕ, _≤_}
-use mathlib.Core.Path.{_≡_, refl, sym, ap, _∙_}
+use Prim.Native.Nat.{_≤_}
+use mathlib.Core.Path.{_≡_, sym, ap, _∙_}
 use mathlib.Core.List.{map}
 use native.Mathlib.Omega.{arith}
 use lib.ListN.{length, take, length-map, length-take}
 use Rattle.rules.specs.Table.{Table}
-use Rattle.rules.specs.Verdicts.{Verdict, accepted, refused, onwards}
+use Rattle.rules.specs.Verdicts.{accepted}
 use Rattle.rules.specs.Judge.{judgeWhole}
-use Rattle.theory.proofs.Verdicts.{never-refused, then-accepts}
-use Rattle.fields.specs.Verdicts.{refusalOf, tested}
+use Rattle.theory.proofs.Verdicts.{then-accepts}
+use Rattle.fields.specs.Verdicts.{refusalOf}
 use Rattle.fields.specs.declared.Refusal.{Refusal}
-use Rattle.fields.specs.declared.Refusal.the-variants.{Short, Order, Size, Range, Many, Clash, Race, Room, Ask}
-use Rattle.fields.specs.declared.Verdict.the-variants.{Accepted, Refused}
-use Rattle.table.specs.Tables.{JudgedAs, opOf, tableOf, tableIn, noTable}
-use Rattle.table.specs.TableLaws.{table-back}
+use Rattle.table.specs.Tables.{opOf, tableOf, tableIn}
 use Rattle.table.specs.declared.Table as code
-use Rattle.table.specs.declared.Judged.{Judged}
 use Rattle.pairs.specs.Whole.{wholeTest, whole-judged, then-refusal}
 
 -- ---- the judgement of the pairs

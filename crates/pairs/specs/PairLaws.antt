@@ -4,11 +4,10 @@ use Prim.Native.Nat.{ℕ, _+_, _<_, _≤_}
 use mathlib.Core.Path.{_≡_, sym, ap, ap₂, _∙_}
 use mathlib.Core.Bool.{Bool, true, false, not}
 use native.Mathlib.Omega.{arith}
-use lib.ListN.{length, take, getD, length-map, List·getD-map}
-use lib.Seq.{length-take-le, getD-take}
+use lib.ListN.{length, getD}
 use borrow.Author.Tests.{not-true, not-false}
 use Rattle.rules.specs.Table as rules
-use Rattle.rules.specs.Table.{nops, op}
+use Rattle.rules.specs.Table.{op}
 use Rattle.rules.specs.Verdicts.{accepted, refused}
 use Rattle.rules.specs.Judge.{pairsTest}
 use Rattle.theory.proofs.Judging.{pairs-accepted, pairs-first}

@@ -1,15 +1,15 @@
 -- What the search keeps, and what it finds.
 -- Assumes nothing.
-use Prim.Native.Nat.{ℕ, suc, _+_, _<_, _≤_}
-use mathlib.Core.Path.{_≡_, sym, subst, _∙_}
-use mathlib.Core.Bool.{Bool, true, false, _&&_}
+use Prim.Native.Nat.{ℕ, _+_, _<_, _≤_}
+use mathlib.Core.Path.{_≡_, sym, subst}
+use mathlib.Core.Bool.{true, false}
 use mathlib.Core.Logic.{_↔_}
 use native.Mathlib.Omega.{arith}
 use Rattle.rules.specs.Table.{Table, Accepted}
-use Rattle.rules.specs.Runs.{BoardsRightAt, ValuesRightAt, Right, spaced, IsPeriod}
-use Rattle.theory.specs.Tests.{boardsFine, valuesFine}
+use Rattle.rules.specs.Runs.{BoardsRightAt, ValuesRightAt, spaced, IsPeriod}
+use Rattle.theory.specs.Tests.{boardsFine}
 use Rattle.theory.proofs.Order.{Cmp, cmp}
-use Rattle.theory.proofs.Says.{Says, says-and, clash-bool}
+use Rattle.theory.proofs.Says.{Says, clash-bool}
 use Rattle.theory.proofs.Modes.{IsReach}
 use Rattle.theory.proofs.Tests.{says-boards-right, says-values-right}
 use Rattle.theory.proofs.Period.{length-right}

@@ -20,7 +20,7 @@ use Rattle.table.specs.declared.Judged.{Judged}
 use Rattle.table.specs.Tables.{tableOf, tableIn, noTable, tableFor, JudgedAs}
 use Rattle.table.specs.TableLaws.{table-back}
 use Rattle.reading.specs.Reading.{opsVerdict, fieldsVerdict}
-use Rattle.reading.specs.ReadingLaws.{refusal, judged-refused}
+use Rattle.reading.specs.ReadingLaws.{refusal, refusal-onwards, passed-as, refused-as, judged-refused}
 
 -- a test, a verdict, and what is done with what they accept
 go-on : {A B C D : Type 0} (u : Verdict A) (v : Verdict B) (g : B → C) (f : C → Verdict D)
@@ -30,13 +30,23 @@ go-on (accepted x) (accepted y) g f = refl
 go-on (accepted x) (refused n a b) g f = refl
 go-on (refused n a b) v g f = refl
 
--- a refusal of the code is one whatever would be done with what is accepted
-still-refused : (v : Verdict rules.Table) (f : rules.Table → Verdict rules.Table) (r : Judged) (x : Refusal)
-    → JudgedAs v r → r .verdict ≡ Refused x → JudgedAs (onwards v f) r
+-- ---- any answer r of the code to a verdict v
+
+denied : (v : Verdict rules.Table) (x : Refusal) → refusalOf {A = Unit {0}} x ≡ onwards v (λ T. accepted tt) → v ≡ refusalOf x
 unfolding onwards
-still-refused (accepted T) f r x j e =
-    let (n, a, b, z, _) = refusal (Unit {0}) (Unit {0}) x in never-refused (sym z ∙ sym (ap tested e) ∙ j .said)
-still-refused (refused n a b) f r x j e = j
+denied (accepted T) x e = let (n, a, b, z, _) = refusal (Unit {0}) (Unit {0}) x in never-refused (sym z ∙ e)
+denied (refused m c d) x e = let (n, a, b, y, z) = refusal rules.Table (Unit {0}) x in cc
+
+module _ {v : Verdict rules.Table} {r : Judged} (j : JudgedAs v r) where
+  -- what the code refuses is refused so
+  pub judged-denied : {x : Refusal} → r .verdict ≡ Refused x → v ≡ refusalOf x
+  judged-denied {x} e = denied v x (refused-as (j .said) e)
+
+  -- what it accepts is accepted, and the table holds it
+  pub judged-table : r .verdict ≡ Accepted → (T : rules.Table) × (v ≡ accepted T) × (r .table ≡ tableIn T)
+  judged-table e = let (T, h, _) = onwards-first v _ (sym (passed-as (j .said) e)) in (T, h, j .table ∙ ap tableFor h)
+
+-- ---- the answer without CLASH and RACE, and the judge's
 
 -- the counts of a table whose fields are accepted
 pub record FieldsOk (T : rules.Table) : Type 0 where
@@ -63,30 +73,28 @@ module _ (s : List ℕ) where
       let same : T ≡ withOps H os = cc in
       rw same (record { ops-high = passing .few; modes-high = counts .1 .1 .1 .1; words = head .words })
 
-  -- ---- the code's answer r to it
   module _ (r : Judged) (j : JudgedAs (fieldsVerdict s) r) where
     -- a refusal is the judge's
     pub read-refused : (x : Refusal) → r .verdict ≡ Refused x → JudgedAs (judge s) r
-    read-refused x e = rw judge-fields (still-refused (fieldsVerdict s) judgeWhole r x j e)
+    read-refused x e =
+        let fields = judged-denied j e in
+        let whole = judge-fields ∙ sym (refusal-onwards x judgeWhole (sym fields)) in
+        record { said = ap tested e ∙ refusal-onwards x _ (sym whole); table = j .table ∙ ap tableFor (fields ∙ sym whole) }
 
     -- a table that is accepted is the rules' table, and nothing else
     module _ (e : r .verdict ≡ Accepted) where
-      accepted-table : (T : rules.Table) × (fieldsVerdict s ≡ accepted T) × (r .table ≡ tableIn T)
-      accepted-table =
-          let (T, v, _) = onwards-first (fieldsVerdict s) _ (sym (sym (ap tested e) ∙ j .said)) in (T, v, j .table ∙ ap tableFor v)
-
       pub read-few : r .table .count ≤ 32
       read-few =
-          let (T, v, t) = accepted-table in
+          let (T, v, t) = judged-table j e in
           let count : r .table .count ≡ nops T = ap (λ (u : Table). u .count) t in
           omega (arith, fields-ok T v .ops-high)
 
       pub read-fields : fieldsVerdict s ≡ accepted (tableOf (r .table))
-      read-fields = let (T, v, t) = accepted-table in v ∙ ap accepted (sym (ap tableOf t ∙ table-back T (fields-ok T v .words)))
+      read-fields = let (T, v, t) = judged-table j e in v ∙ ap accepted (sym (ap tableOf t ∙ table-back T (fields-ok T v .words)))
 
       pub read-table : r .table ≡ tableIn (tableOf (r .table))
       read-table =
-          let (T, v, t) = accepted-table in t ∙ ap tableIn (sym (ap tableOf t ∙ table-back T (fields-ok T v .words)))
+          let (T, v, t) = judged-table j e in t ∙ ap tableIn (sym (ap tableOf t ∙ table-back T (fields-ok T v .words)))
 
       -- the judge goes on with it
       pub read-whole : judge s ≡ judgeWhole (tableOf (r .table))

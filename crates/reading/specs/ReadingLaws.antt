@@ -97,9 +97,6 @@ module _ (T : rules.Table) (s : List ℕ) (left at : ℕ) where
     op-first : (repeatOf s at left 4 18 then ranged (opOk T (opAt s at)) at) ≡ ranged (opOk T (opAt s at)) at
     op-first = then-accepts _ (sym e)
 
-    pub op-whole : at + 21 ≤ length s
-    op-whole = omega (arith, repeat-passed s at 4 18 left (sym e) .0)
-
     pub op-range : opOk T (opAt s at) ≡ false → refused RANGE at 0 ≡ opVerdict T s left at
     op-range h = sym (op-split ∙ then-refuses _ (op-first ∙ ranged-no _ at h))
 

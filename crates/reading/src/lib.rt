@@ -1,6 +1,6 @@
 // A table's bytes, read field by field in document 01's order, and then judged for CLASH and RACE.
 ghost use mathlib.Core.Path.{_≡_};
-ghost use Prim.Native.Nat.{_+_, _*_, _-_, _<_, _≤_};
+ghost use Prim.Native.Nat.{_+_, _-_, _<_, _≤_};
 ghost use lib.ListN.{length};
 ghost use Rattle.rules.specs.Verdicts.{accepted};
 ghost use Rattle.rules.specs.Bytes.{num8, words, opAt};
@@ -21,6 +21,7 @@ enum Next {
     Bad(Refusal),
 }
 
+// The number in one byte.
 fn byte(s: &[u8], at: usize) -> u32
     requires { ⌜ at < length (now s) ⌝ }
     ensures { λ r. ⌜ (r ≡ num8 (now (s .entry)) at) × (r < 256) ⌝ }
@@ -72,7 +73,7 @@ fn counts_test(s: &[u8]) -> Verdict
 
 // The first modes and the followers of each mode, one word after the other.
 fn sets_ok(s: &[u8], modes: u32) -> bool
-    requires { ⌜ (modes ≤ 32) × (18 + 4 * modes ≤ length (now s)) ⌝ }
+    requires { ⌜ (modes ≤ 32) × (opsPlace modes ≤ length (now s)) ⌝ }
     ensures { λ r. ⌜ r ≡ eachSetOk modes (words (now (s .entry)) 14 (modes + 1)) ⌝ }
 {
     let n = modes as usize + 1;
@@ -133,7 +134,7 @@ fn head_test(s: &[u8]) -> Verdict
 
 // The followers of each mode; what does not count is zero.
 fn read_words(s: &[u8], modes: u32) -> [u32; 32]
-    requires { ⌜ (modes ≤ 32) × (18 + 4 * modes ≤ length (now s)) ⌝ }
+    requires { ⌜ (modes ≤ 32) × (opsPlace modes ≤ length (now s)) ⌝ }
     ensures { λ r. ⌜ r ≡ padded 32 0 (words (now (s .entry)) 18 modes) ⌝ }
 {
     let n = modes as usize;
@@ -212,13 +213,13 @@ fn read_ops(s: &[u8]) -> Judged
     requires { ⌜ headTest (now s) ≡ accepted tt ⌝ }
     ensures { λ r. ⌜ JudgedAs (opsVerdict (now (s .entry))) r ⌝ }
 {
-    let none = table::empty();
     let mut t = read_head(s);
     let mut at = ops_place(t.modes);
     while at < s.len() {
         let next = next_op(s, at, t);
         match next {
             Next::Bad(r) => {
+                let none = table::empty();
                 return Judged {
                     verdict: Verdict::Refused(r),
                     table: none,
@@ -264,7 +265,8 @@ pub fn read(s: &[u8]) -> Judged
     if let Verdict::Refused(_) = v {
         return j;
     }
-    let w = pairs::whole(j.table);
+    let t = j.table;
+    let w = pairs::whole(t);
     match w {
         Verdict::Accepted => j,
         Verdict::Refused(r) => {

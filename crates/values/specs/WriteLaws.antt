@@ -1,21 +1,20 @@
 -- The operations of a table that the engine takes, and the modes of those that write a cell.
 -- Assumes nothing.
-use Prim.Native.Nat.{ℕ, zero, suc, _+_, _<_, _≤_}
-use mathlib.Core.Path.{_≡_, refl, ap, _∙_}
+use Prim.Native.Nat.{ℕ, suc, _+_, _<_, _≤_}
+use mathlib.Core.Path.{_≡_, refl, ap}
 use mathlib.Core.Bool.{Bool, cond, and-true}
 use mathlib.Core.List.{List, [], _∷_}
 use native.Mathlib.Numerals.{add-one}
 use native.Mathlib.Omega.{arith}
 use lib.Dec.{ltb}
-use lib.Bits.{bitOr, or-zero-l, or-zero-r}
-use lib.ListN.{length, take, getD, List·getD-map}
-use lib.Seq.{take-all, getD-take}
+use lib.Bits.{bitOr}
+use lib.ListN.{length, take, getD}
+use lib.Seq.{take-all}
 use borrow.Author.Tests.{lt-ltb, le-leb}
 use Rattle.rules.specs.Sets.{has}
 use Rattle.rules.specs.Table as rules
-use Rattle.rules.specs.Table.{nops, op, endOf, OpOk, Accepted}
+use Rattle.rules.specs.Table.{op, endOf, Accepted}
 use Rattle.theory.specs.Tests.{without, modesOf, writers, lastIn, freshIn}
-use Rattle.sets.specs.Laws.{or-assoc}
 use Rattle.table.specs.Tables.{opOf, tableOf, noOp, Good}
 use Rattle.table.specs.TableLaws.{op-at, good-count}
 use Rattle.table.specs.declared.Table.{Table}

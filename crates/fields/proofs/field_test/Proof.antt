@@ -1,7 +1,7 @@
 -- Each return is one outcome of the row of tests, and the last is that of the tests of the length.
 -- Assumes nothing.
 use Prim.Native.Nat.{_+_, _<_, _≤_}
-use mathlib.Core.Path.{_≡_, sym, _∙_}
+use mathlib.Core.Path.{sym, _∙_}
 use native.Mathlib.Omega.{arith}
 use lib.ListN.{length}
 use Rattle.fields.specs.FieldLaws.{field-missing, field-cut, field-other, field-due}

@@ -1,6 +1,6 @@
 -- The rows behind each mode by itself.
 -- Assumes nothing.
-use Rattle.turns.specs.Turns.{singles, blockFrom}
+use Rattle.turns.specs.Turns.{singles}
 use borrow.Author.Needs.{needs}
 use Rattle.period.proofs.first_block.Statement.{statement}
 use Rattle.period.proofs.first_block.Tie as tie

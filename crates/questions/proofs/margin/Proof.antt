@@ -1,10 +1,9 @@
 -- A refusal of the table is the answer; an accepted one is asked.
 -- Assumes nothing.
-use mathlib.Core.Path.{_≡_, refl, sym, subst, _∙_}
+use mathlib.Core.Path.{_∙_}
 use Rattle.rules.specs.Judge.{judge}
-use Rattle.rules.specs.Verdicts.{Verdict, accepted, _then_, onwards}
 use Rattle.theory.proofs.Judging.{judge-accepted}
-use Rattle.table.specs.JudgedLaws.{judged-accepted, judged-refused, took-good, took-table}
+use Rattle.table.specs.JudgedLaws.{judged-accepted, judged-refused, took-good}
 use Rattle.questions.specs.QuestionLaws.{refused-on, accepted-on}
 use borrow.Author.Needs.{needs}
 use Rattle.questions.proofs.margin.Statement.{statement}

@@ -1,7 +1,6 @@
 -- The sums are unsigned and small, so the one signed subtraction is exact.
 -- Assumes nothing.
 use Prim.Native.Nat.{_*_, _+_, _^_, _<_}
-use mathlib.Core.Path.{sym, _∙_}
 use native.Mathlib.Nat.{mul-le-mul}
 use native.Mathlib.Omega.{arith}
 use mir.Facts.{toZ-pos, toZ-ofZ}

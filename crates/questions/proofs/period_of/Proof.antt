@@ -2,7 +2,7 @@
 -- Assumes nothing.
 use mathlib.Core.Path.{refl, subst⁻¹}
 use Rattle.rules.specs.Judge.{judge}
-use Rattle.rules.specs.Verdicts.{Verdict, accepted, _then_, onwards}
+use Rattle.rules.specs.Verdicts.{Verdict, accepted}
 use Rattle.theory.proofs.Judging.{judge-accepted}
 use Rattle.table.specs.JudgedLaws.{judged-accepted, judged-refused, took-good, took-table}
 use Rattle.rules.specs.Table.{Table}

@@ -94,7 +94,7 @@ returns-4 c =
     let modes = m .before .byte .ensures .0 in
     let place = c .before .ops-place .ensures ∙ ap opsPlace modes in
     ap (λ (n : ℕ). refused ORDER n 0) place
-    ∙ sym (after-modes s (passed-as (l .len-test .ensures) (e1 .enum-told .given .1)) (passed-as (k .counts-test .ensures) (e2 .enum-told2 .given .1)) (passed-as (m .modes-test .ensures) (e3 .enum-told3 .given .1) ∙ ap (λ (n : ℕ). modesTest n s) modes) ∙ needed-no s (opsPlace (num8 s 10)) (rw place at (c .if1 .taken)))
+    ∙ sym (after-modes s (passed-as (l .len-test .ensures) (e1 .enum-told .given .1)) (passed-as (k .counts-test .ensures) (e2 .enum-told2 .given .1)) (passed-as (m .modes-test .ensures) (e3 .enum-told3 .given .1) ∙ ap (λ (n : ℕ). modesTest n s) modes) ∙ needed-no s (opsPlace (num8 s 10)) (omega (arith, place)))
 
 returns-5 : tie.Need-returns-5
 returns-5 c =
@@ -107,7 +107,7 @@ returns-5 c =
     let s = now (l .before .before .args .s) in
     let modes = m .before .byte .ensures .0 in
     let place = c .before .ops-place .ensures ∙ ap opsPlace modes in
-    sym (after-modes s (passed-as (l .len-test .ensures) (e1 .enum-told .given .1)) (passed-as (k .counts-test .ensures) (e2 .enum-told2 .given .1)) (passed-as (m .modes-test .ensures) (e3 .enum-told3 .given .1) ∙ ap (λ (n : ℕ). modesTest n s) modes) ∙ needed-yes s (opsPlace (num8 s 10)) (rw place at (c .if1 .left)))
+    sym (after-modes s (passed-as (l .len-test .ensures) (e1 .enum-told .given .1)) (passed-as (k .counts-test .ensures) (e2 .enum-told2 .given .1)) (passed-as (m .modes-test .ensures) (e3 .enum-told3 .given .1) ∙ ap (λ (n : ℕ). modesTest n s) modes) ∙ needed-yes s (opsPlace (num8 s 10)) (omega (arith, place)))
 
 pub head-test-spec : {M : Type 1} → statement M
 head-test-spec =

@@ -1,6 +1,5 @@
 -- The tests before the range, and then the range of the length.
 -- Assumes nothing.
-use denote.Ref.{now}
 use mathlib.Core.Path.{sym, ap, _∙_}
 use native.Mathlib.Omega.{arith}
 use Rattle.rules.specs.Judge.{lenOk}
@@ -20,7 +19,7 @@ enum-told : tie.Need-enum-told
 enum-told c = search needs
 
 be16-requires : tie.Need-be16-requires
-be16-requires c κs = let f = c .before .before in omega (arith, field-passed (now (f .before .before .args .s)) 0 1 2 (sym (passed-as (f .field-test .ensures) (c .enum-told .given .1))))
+be16-requires c κs = let f = c .before .before in omega (arith, field-passed _ _ _ _ (sym (passed-as (f .field-test .ensures) (c .enum-told .given .1))))
 
 cast-len-ok : tie.Need-cast-len-ok
 cast-len-ok c = search needs
@@ -32,14 +31,14 @@ range-test-requires : tie.Need-range-test-requires
 range-test-requires c κs = search needs
 
 returns : tie.Need-returns
-returns c = let f = c .before .before .before in field-bad _ 0 1 2 _ (c .before .v .given .0 .0) (refused-as (f .field-test .ensures) (c .before .v .given .1))
+returns c = let f = c .before .before .before in field-bad _ _ _ _ _ (c .before .v .given .0 .0) (refused-as (f .field-test .ensures) (c .before .v .given .1))
 
 returns-2 : tie.Need-returns-2
 returns-2 c =
     let b = c .before .before in
     let f = b .before .before .before in
     c .range-test .ensures
-    ∙ field-ranged _ 0 1 2 _ _ (passed-as (f .field-test .ensures) (b .before .enum-told .given .1)) (c .before .len-ok .ensures ∙ ap lenOk (b .be16 .ensures .0))
+    ∙ field-ranged _ _ _ _ _ _ (passed-as (f .field-test .ensures) (b .before .enum-told .given .1)) (c .before .len-ok .ensures ∙ ap lenOk (b .be16 .ensures .0))
 
 pub len-test-spec : {M : Type 1} → statement M
 len-test-spec =

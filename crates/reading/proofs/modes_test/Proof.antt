@@ -1,7 +1,5 @@
 -- The tests before the ranges, and then the ranges of the sets.
 -- Assumes nothing.
-use denote.Ref.{now}
-use Prim.Native.Nat.{_+_, _*_}
 use mathlib.Core.Path.{sym, _∙_}
 use native.Mathlib.Omega.{arith}
 use Rattle.fields.specs.FieldLaws.{field-passed}
@@ -28,21 +26,20 @@ enum-told c = search needs
 sets-ok-requires : tie.Need-sets-ok-requires
 sets-ok-requires c κs =
     let f = c .before .before in
-    let a = f .before .before .args in
-    (search needs, omega (arith, field-passed (now (a .s)) 11 3 (4 + 4 * a .modes) (sym (passed-as (f .field-test .ensures) (c .enum-told .given .1)))))
+    (search needs, omega (arith, field-passed _ _ _ _ (sym (passed-as (f .field-test .ensures) (c .enum-told .given .1)))))
 
 range-test-requires : tie.Need-range-test-requires
 range-test-requires c κs = search needs
 
 returns : tie.Need-returns
-returns c = let f = c .before .before .before in field-bad _ 11 3 _ _ (c .before .v .given .0 .0) (refused-as (f .field-test .ensures) (c .before .v .given .1))
+returns c = let f = c .before .before .before in field-bad _ _ _ _ _ (c .before .v .given .0 .0) (refused-as (f .field-test .ensures) (c .before .v .given .1))
 
 returns-2 : tie.Need-returns-2
 returns-2 c =
     let b = c .before in
     let f = b .before .before .before in
     c .range-test .ensures
-    ∙ field-ranged _ 11 3 _ _ _ (passed-as (f .field-test .ensures) (b .before .enum-told .given .1)) (b .sets-ok .ensures)
+    ∙ field-ranged _ _ _ _ _ _ (passed-as (f .field-test .ensures) (b .before .enum-told .given .1)) (b .sets-ok .ensures)
 
 pub modes-test-spec : {M : Type 1} → statement M
 modes-test-spec =

@@ -1,11 +1,13 @@
 -- The tests before the ranges; then the ranges of the six numbers; then the operation that has them.
 -- Assumes nothing.
 use Prim.Native.Nat.{_-_}
+use native.Mathlib.Omega.{arith}
 use mathlib.Core.Path.{sym, ap, _∙_}
 use borrow.Author.Tests.{not-true, not-false}
 use Rattle.rules.specs.Verdicts.{accepted}
+use Rattle.fields.specs.FieldLaws.{repeat-passed}
 use Rattle.table.specs.Tables.{tableOf}
-use Rattle.reading.specs.ReadingLaws.{passed-as, refused-as, op-judged, op-bad, op-whole, op-range, op-fine}
+use Rattle.reading.specs.ReadingLaws.{passed-as, refused-as, op-judged, op-bad, op-range, op-fine}
 use borrow.Author.Needs.{needs}
 use Rattle.reading.proofs.next_op.Statement.{statement}
 use Rattle.reading.proofs.next_op.Tie as tie
@@ -25,8 +27,7 @@ enum-told c = search needs
 read-op-requires : tie.Need-read-op-requires
 read-op-requires c κs =
     let f = c .before .before in
-    let a = f .before .before .before .args in
-    op-whole (tableOf (a .t)) _ (32 - a .t .count) (a .at) (passed-as (f .repeat-test .ensures) (c .enum-told .given .1))
+    omega (arith, repeat-passed _ _ _ _ _ (sym (passed-as (f .repeat-test .ensures) (c .enum-told .given .1))) .0)
 
 wide-ok-requires : tie.Need-wide-ok-requires
 wide-ok-requires c κs = search needs
@@ -38,7 +39,7 @@ returns c =
     let f = e .before .before in
     let a = f .before .before .before .args in
     let T = tableOf (a .t) in
-    op-range T _ (32 - a .t .count) (a .at) (passed-as (f .repeat-test .ensures) (e .enum-told .given .1))
+    op-range T _ _ _ (passed-as (f .repeat-test .ensures) (e .enum-told .given .1))
     (op-judged T (sym (not-true _ (c .if1 .taken)) ∙ w .wide-ok .ensures) (w .before .read-op .ensures))
 
 narrow-requires : tie.Need-narrow-requires
@@ -51,7 +52,7 @@ returns-2 : tie.Need-returns-2
 returns-2 c =
     let f = c .before .before .before in
     let a = f .before .before .before .args in
-    op-bad (tableOf (a .t)) _ (32 - a .t .count) (a .at) (c .before .v .given .0 .0) (refused-as (f .repeat-test .ensures) (c .before .v .given .1))
+    op-bad (tableOf (a .t)) _ _ _ (c .before .v .given .0 .0) (refused-as (f .repeat-test .ensures) (c .before .v .given .1))
 
 returns-3 : tie.Need-returns-3
 returns-3 c =
@@ -61,7 +62,7 @@ returns-3 c =
     let a = f .before .before .before .args in
     let T = tableOf (a .t) in
     ap accepted (c .narrow .ensures ∙ w .before .read-op .ensures)
-    ∙ op-fine T _ (32 - a .t .count) (a .at) (passed-as (f .repeat-test .ensures) (e .enum-told .given .1))
+    ∙ op-fine T _ _ _ (passed-as (f .repeat-test .ensures) (e .enum-told .given .1))
     (op-judged T (sym (not-false _ (c .before .if1 .left)) ∙ w .wide-ok .ensures) (w .before .read-op .ensures))
 
 pub next-op-spec : {M : Type 1} → statement M

@@ -26,8 +26,9 @@ enum-told-2 c = search needs
 
 whole-requires : tie.Need-whole-requires
 whole-requires c κs =
-    let f = c .before .before in
-    read-few (now (f .before .before .args .s)) _ (f .read-fields .ensures) (c .enum-told2 .given .1)
+    let e = c .before in
+    let f = e .before .before in
+    read-few (now (f .before .before .args .s)) _ (f .read-fields .ensures) (e .enum-told2 .given .1)
 
 enum-told-3 : tie.Need-enum-told-3
 enum-told-3 c = search needs
@@ -41,7 +42,7 @@ empty-requires c κs = search needs
 returns-2 : tie.Need-returns-2
 returns-2 c =
     let w = c .before .before in
-    let e = w .before in
+    let e = w .before .before in
     let f = e .before .before in
     read-passed _ _ (f .read-fields .ensures) (e .enum-told2 .given .1)
     (whole-judged _ ∙ then-accepts _ (sym (passed-as (w .whole .ensures) (c .enum-told3 .given .1))))
@@ -50,7 +51,7 @@ returns-3 : tie.Need-returns-3
 returns-3 c =
     let r = c .before .before in
     let w = r .before .before in
-    let e = w .before in
+    let e = w .before .before in
     let f = e .before .before in
     read-hit _ _ (f .read-fields .ensures) (e .enum-told2 .given .1) (r .w .given .0 .0) (c .empty .ensures)
     (refusal-then (r .w .given .0 .0) _ (refused-as (w .whole .ensures) (r .w .given .1)) ∙ sym (whole-judged _))

@@ -4,7 +4,7 @@ use Prim.Native.Nat.{ℕ, _-_, _*_, _/_, _%_}
 use mathlib.Core.Path.{_≡_, ap}
 use native.Mathlib.Nat.{div-add-mod'}
 use native.Mathlib.Omega.{arith}
-use Rattle.rules.specs.Rows.{Row, ticks, cycles}
+use Rattle.rules.specs.Rows.{ticks, cycles}
 use borrow.Author.Needs.{needs}
 use Rattle.rows.proofs.fold.Statement.{statement}
 use Rattle.rows.proofs.fold.Tie as tie

@@ -1,6 +1,6 @@
 -- The product of two numbers of 16 bits and one more fits 32 bits.
 -- Assumes nothing.
-use Prim.Native.Nat.{_*_, _+_, _<_, _≤_}
+use Prim.Native.Nat.{_≤_}
 use native.Mathlib.Omega.{arith}
 use native.Mathlib.Nat.{mul-le-mul}
 use borrow.Author.Tests.{lt-ltb, le-ltb}

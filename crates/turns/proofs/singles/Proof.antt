@@ -1,10 +1,10 @@
 -- The first m modes are there.
 -- Assumes nothing.
-use Prim.Native.Nat.{ℕ, _-_, _^_, _<_, _≤_}
+use Prim.Native.Nat.{_-_, _^_, _<_, _≤_}
 use mathlib.Core.Path.{_≡_, refl, sym, _∙_}
 use native.Mathlib.Omega.{arith}
 use native.Mathlib.Numerals.{add-one}
-use lib.ListN.{length, take, getD, length-set}
+use lib.ListN.{length, take, length-set}
 use lib.Seq.{take-all, take-suc-set}
 use Rattle.sets.specs.Laws.{one-shl}
 use Rattle.turns.specs.Turns.{tab, singles}
