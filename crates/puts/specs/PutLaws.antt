@@ -49,11 +49,3 @@ module _ {A : Type 0} (f : A → List ℕ) (w : ℕ) (width : (x : A) → length
 pub stored-front : (out bytes : List ℕ) → length bytes ≤ length out → stored out 0 bytes ≡ bytes ++ drop (length bytes) out
 unfolding stored
 stored-front out bytes h = sets-eq bytes out 0 (omega arith) ∙ rw zero-add
-
--- bytes behind what is written at the front
-pub stored-behind : (done bytes out : List ℕ) {mid end : List ℕ} → length (done ++ bytes) ≤ length out → mid ≡ done ++ drop (length done) out
-    → end ≡ stored mid (length done) bytes → end ≡ (done ++ bytes) ++ drop (length (done ++ bytes)) out
-stored-behind done bytes out {mid} {end} h e f =
-    let l = length-append done bytes in
-    let front : mid ≡ stored out 0 done = e ∙ sym (stored-front out done (omega arith)) in
-    stored-then out 0 done bytes front (omega arith) f ∙ stored-front out (done ++ bytes) h
