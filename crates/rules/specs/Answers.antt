@@ -14,6 +14,7 @@ use Rattle.rules.specs.Rows.{Reply, replyOf, startsOf, margin}
 use Rattle.rules.specs.Verdicts.{Verdict, accepted, refused, ROOM, ASK, Test, refuseIf, _then_, onwards}
 use Rattle.rules.specs.Bytes.{tableBytes, replyBytes, startsBytes}
 use Rattle.rules.specs.Judge.{judge, Numbers, judgeNumbers, judgeReply}
+use Rattle.rules.specs.Text.{textOf}
 
 -- ---- a lent buffer
 
@@ -59,6 +60,10 @@ bytesOf f v = onwards v (λ x. accepted (f x))
 
 abbrev pub IsPlan : List ℕ → List ℕ → Written → Type 0
 IsPlan s out w = (v : Verdict Reply) × ReplyTo s v × (w ≡ written (bytesOf replyBytes v) out)
+
+-- ---- fold: a table's bytes in, the text out, which tells a refusal of the table too
+abbrev pub IsFold : List ℕ → List ℕ → Written → Type 0
+IsFold s out w = (v : Verdict Reply) × ReplyTo s v × (w ≡ put (textOf v) out)
 
 -- ---- unfold: a reply's bytes in, the starts' bytes out
 abbrev pub IsUnfold : List ℕ → List ℕ → Written → Type 0

@@ -6,5 +6,6 @@ pub mod Rows
 pub mod Verdicts
 pub mod Bytes
 pub mod Judge
+pub mod Text
 pub mod Answers
 pub mod Bench

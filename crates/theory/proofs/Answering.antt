@@ -16,7 +16,8 @@ use Rattle.rules.specs.Rows.{Reply, replyOf}
 use Rattle.rules.specs.Verdicts.{Verdict, accepted, refused, ASK, ROOM, _then_, onwards}
 use Rattle.rules.specs.Bytes.{replyBytes, farthest}
 use Rattle.rules.specs.Judge.{judge, Numbers}
-use Rattle.rules.specs.Answers.{Written, put, written, Answers, Planned, ReplyTo, bytesOf, IsPlan, IsUnfold, IsWrite, asked, periodAsked, IsMargin, RightSaid, IsRight}
+use Rattle.rules.specs.Text.{textOf}
+use Rattle.rules.specs.Answers.{Written, put, written, Answers, Planned, ReplyTo, bytesOf, IsPlan, IsFold, IsUnfold, IsWrite, asked, periodAsked, IsMargin, RightSaid, IsRight}
 use Rattle.theory.specs.Tests.{rightb, periodOf, planOf, askedTable, saidOf}
 use Rattle.theory.proofs.Says.{says-leb, says-and}
 use Rattle.theory.proofs.Verdicts.{never-refused, passed, then-first, then-rest, onwards-accepts, onwards-first}
@@ -68,6 +69,13 @@ unfolding planOf written bytesOf onwards
 plan-put s out w T read (v, r, e) =
     let same = reply-unique s v (planOf s) r (reply-found s) ∙ onwards-accepts (λ U. accepted (replyOf U (periodOf U))) read in
     e ∙ ap (λ (u : Verdict Reply). written (bytesOf replyBytes u) out) same
+
+-- ---- fold: the text of the one reply
+pub fold-unique : (s out : List ℕ) (w x : Written) → IsFold s out w → IsFold s out x → w ≡ x
+fold-unique s out w x (v, r, e) (u, q, f) = e ∙ ap (λ (y : Verdict Reply). put (textOf y) out) (reply-unique s v u r q) ∙ sym f
+
+pub fold-exists : (s out : List ℕ) → (w : Written) × IsFold s out w
+fold-exists s out = (put (textOf (planOf s)) out, (planOf s, reply-found s, refl))
 
 -- ---- unfold, write, margin: computed from the input, so one answer and always one
 pub unfold-unique : (s out : List ℕ) (w x : Written) → IsUnfold s out w → IsUnfold s out x → w ≡ x
@@ -178,6 +186,9 @@ unfold-keeps s out w n a b e no-starts = rw e (refusal-keeps _ out n a b (rw e a
 pub write-keeps : (N : Numbers) (out : List ℕ) (w : Written) (n a b : ℕ) → IsWrite N out w → w .answer ≡ refused n a b → w .buffer ≡ out
 write-keeps N out w n a b e no-table = rw e (refusal-keeps _ out n a b (rw e at no-table))
 
+pub fold-keeps : (s out : List ℕ) (w : Written) (n a b : ℕ) → IsFold s out w → w .answer ≡ refused n a b → w .buffer ≡ out
+fold-keeps s out w n a b (v, r, e) no-text = rw e (put-refused (textOf v) out n a b (rw e at no-text))
+
 pub plan-length : (s out : List ℕ) (w : Written) → IsPlan s out w → length (w .buffer) ≡ length out
 plan-length s out w (v, r, e) = rw e (written-length _ out)
 
@@ -191,6 +202,9 @@ write-length N out w e = rw e (written-length _ out)
 module _ (s t : List ℕ) (near : take farthest s ≡ take farthest t) where
   pub plan-near : (out : List ℕ) (w : Written) → IsPlan s out w → IsPlan t out w
   plan-near out w (v, r, e) = (v, rw (no-farther s t near) at r, e)
+
+  pub fold-near : (out : List ℕ) (w : Written) → IsFold s out w → IsFold t out w
+  fold-near out w (v, r, e) = (v, rw (no-farther s t near) at r, e)
 
   pub margin-near : (i j n q : ℕ) (v : Verdict ℤ) → IsMargin s i j n q v → IsMargin t i j n q v
   margin-near i j n q v e = rw (no-farther s t near) at e

@@ -16,6 +16,7 @@ pub mod Lengths
 pub mod Bytes
 pub mod Numbers
 pub mod Replies
+pub mod Text
 pub mod Answering
 pub mod Copies
 pub mod RoundTrip
