@@ -321,6 +321,19 @@ module _ {A : Type 0} (ok : A → Bool) (none : A) (unit : ℕ) where
   passing-some [] h p = omega arith
   passing-some (x ∷ xs) h p = omega arith
 
+-- each of them stands `unit` places behind the one before, the first at a place
+abbrev pub Placed : {A : Type 0} → A → (ℕ → A) → ℕ → ℕ → List A → Type 0
+Placed none f unit at xs = (i : ℕ) → i < length xs → getD xs i none ≡ f (at + i * unit)
+
+module _ {A : Type 0} (none : A) (f : ℕ → A) (unit at : ℕ) where
+  placed-none : {xs : List A} → accepted [] ≡ accepted xs → Placed none f unit at xs
+  placed-none {xs = []} e i h = absurd (omega (arith, h))
+  placed-none {xs = x ∷ xs} e i h = let z : _≡_ {A = ℕ} 0 1 = cc in absurd (omega arith)
+
+  placed-more : (next : ℕ) → next ≡ at + unit → (xs : List A) → Placed none f unit next xs → Placed none f unit at (f at ∷ xs)
+  placed-more next e xs rest zero h = ap f (omega arith)
+  placed-more next e xs rest (suc i) h = rest i (omega (arith, h)) ∙ ap f (omega arith)
+
 module _ {A : Type 0} (tag size : ℕ) (ok : A → Bool) (value : List ℕ → ℕ → A) (s : List ℕ) where
   -- the tests at one place, where no more may come and where one may
   pub fields-end : (at : ℕ)
@@ -350,10 +363,24 @@ module _ {A : Type 0} (tag size : ℕ) (ok : A → Bool) (value : List ℕ → �
       let (_, full, fine) = repeat-passed s at tag size _ (suc left) (then-first _ _ x .1) in
       passing-more ok none (3 + size) _ fine (omega arith) (then-rest _ _ x) (fields-passing none left (at + 3 + size)))
 
+  -- and each has its value from its own place
+  pub fields-values : (none : A) (left at : ℕ) (xs : List A) → fieldsFrom tag size ok value s left at ≡ accepted xs → Placed none (value s) (3 + size) at xs
+  fields-values none zero at xs e =
+      both (leb (length s) at) (sym (fields-end at) ∙ e)
+      (λ b x. placed-none none (value s) (3 + size) at x)
+      (λ b x. clash-bool refl (repeat-passed s at tag size _ 0 (then-first _ _ x .1) .0))
+  fields-values none (suc left) at xs e =
+      both (leb (length s) at) (sym (fields-next left at) ∙ e)
+      (λ b x. placed-none none (value s) (3 + size) at x)
+      (λ b x.
+      let (ys, rest, whole) = more-first (value s at) _ (then-rest _ _ x) in
+      subst (λ (zs : List A). Placed none (value s) (3 + size) at zs) (sym whole)
+      (placed-more none (value s) (3 + size) at (at + 3 + size) (omega arith) ys (fields-values none left (at + 3 + size) ys rest)))
+
 -- ---- the whole table
 
 -- the length and the counts in their ranges
-says-len : (p : ℕ) → Says (lenOk p) ((1 ≤ p) × (p ≤ 1000))
+pub says-len : (p : ℕ) → Says (lenOk p) ((1 ≤ p) × (p ≤ 1000))
 unfolding lenOk
 says-len p = says-and _ _ (says-leb 1 p) (says-leb p 1000)
 

@@ -1,7 +1,7 @@
 -- Unfolding gives the starts back, and a reply is read back as it was written.
 -- Assumes nothing.
-use Prim.Native.Nat.{ℕ, _+_, _<_, _≤_}
-use mathlib.Core.Path.{_≡_, refl, ap, _∙_}
+use Prim.Native.Nat.{ℕ, _+_, _*_, _<_, _≤_}
+use mathlib.Core.Path.{_≡_, refl, sym, ap, _∙_}
 use mathlib.Core.Bool.{true}
 use mathlib.Core.List.{List, [], _∷_, _++_, map}
 use native.Mathlib.Nat.{div-add-mod', mod-lt, mul-le-mul-left}
@@ -11,11 +11,12 @@ use lib.ListN.{length, getD, take, length-map, List·getD-map}
 use borrow.Author.Tests.{lt-leb}
 use Rattle.rules.specs.Table.{Op, Table, noOp, op, Accepted}
 use Rattle.rules.specs.Rows.{Ticks, Row, Reply, ticks, cycles, foldAt, unfoldAt, replyOf, startsOf}
-use Rattle.rules.specs.Verdicts.{accepted, ORDER, onwards}
+use Rattle.rules.specs.Verdicts.{accepted, ORDER, _then_, onwards}
 use Rattle.rules.specs.Bytes.{num16, rowBytes, replyBytes, rowAt}
-use Rattle.rules.specs.Judge.{lenOk, needed, rowOk, rowsFrom, replyTest, judgeReply}
+use Rattle.rules.specs.Judge.{lenOk, needed, fieldTest, rowOk, rowsFrom, replyTest, judgeReply}
 use Rattle.theory.proofs.Says.{Says, says-leb, says-ltb, says-and}
-use Rattle.theory.proofs.Verdicts.{passes, then-accepts, onwards-accepts}
+use Rattle.theory.proofs.Verdicts.{passes, then-accepts, then-first, then-rest, onwards-accepts, onwards-first}
+use Rattle.theory.proofs.Judging.{field-passed, says-len, fields-passing, fields-values}
 use Rattle.theory.proofs.Bytes.{two-bytes, past16, reply-length, field-whole, in-range, len-ok, fields-accepted, Repeated, fields-back}
 
 -- ---- fold and unfold
@@ -113,3 +114,47 @@ reply-read T ok q low high =
     (λ i h.
     ap (rowOk q) (List·getD-map (folded q) (T .ops) i noOp)
     ∙ fold-ok q (op T i .start) low (let o = ok .each i (omega arith) in omega arith))
+
+-- ---- a reply that is accepted, as its bytes have it
+pub record ReplyIn (s : List ℕ) (R : Reply) : Type 0 where
+  pub period : R .period ≡ ticks (num16 s 3)
+  pub low : 1 ≤ num16 s 3
+  pub high : num16 s 3 ≤ 1000
+  pub size : length s ≡ 5 + 7 * length (R .rows)
+  pub row : (d : Row) (i : ℕ) → i < length (R .rows) → getD (R .rows) i d ≡ rowAt s (5 + 7 * i)
+  pub near : (i : ℕ) → i < length (R .rows) → unfoldAt (ticks (num16 s 3)) (rowAt s (5 + 7 * i)) .number ≤ 999
+
+module _ (s : List ℕ) where
+  -- the rows of tests that the judgement of a reply is
+  pub reply-row : judgeReply s
+      ≡ ((fieldTest s 0 17 2 (lenOk (num16 s 3)) then needed s 5)
+      then onwards (rowsFrom (num16 s 3) s 32 5) (λ rs. accepted (record { period = ticks (num16 s 3); rows = rs })))
+  unfolding judgeReply replyTest
+  reply-row = refl
+
+  rows-in : (rs : List Row) → rowsFrom (num16 s 3) s 32 5 ≡ accepted rs → (1 ≤ num16 s 3) × (num16 s 3 ≤ 1000) → 5 ≤ length s
+      → ReplyIn s (record { period = ticks (num16 s 3); rows = rs })
+  unfolding rowsFrom
+  rows-in rs come ranges long =
+      let q = num16 s 3 in
+      let d = rowAt s 0 in
+      let passing = fields-passing 18 4 (rowOk q) rowAt s d 32 5 rs come in
+      let place : (i : ℕ) → 5 + i * 7 ≡ 5 + 7 * i = λ i. omega arith in
+      let row : (d : Row) (i : ℕ) → i < length rs → getD rs i d ≡ rowAt s (5 + 7 * i) = λ d i h. fields-values 18 4 (rowOk q) rowAt s d 32 5 rs come i h ∙ ap (rowAt s) (place i) in
+      record {
+        period = refl;
+        low = ranges .0;
+        high = ranges .1;
+        size = omega (arith, passing .filled);
+        row = row;
+        near = λ i h. says-row q (rowAt s (5 + 7 * i)) .0 (ap (rowOk q) (sym (row d i h)) ∙ passing .each i h) .1;
+      }
+
+  pub reply-in : (R : Reply) → judgeReply s ≡ accepted R → ReplyIn s R
+  reply-in R e =
+      let here = sym reply-row ∙ e in
+      let test = then-first (fieldTest s 0 17 2 (lenOk (num16 s 3))) (needed s 5) (then-first _ _ here .1) .1 in
+      let (long, ok) = field-passed s 0 17 2 (lenOk (num16 s 3)) test in
+      let (rs, come, whole) = onwards-first (rowsFrom (num16 s 3) s 32 5) _ (then-rest _ _ here) in
+      let same : R ≡ record { period = ticks (num16 s 3); rows = rs } = cc in
+      rw same (rows-in rs come (says-len (num16 s 3) .0 ok) long)
