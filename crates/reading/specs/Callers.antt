@@ -32,10 +32,11 @@ go-on (refused n a b) v g f = refl
 
 -- ---- any answer r of the code to a verdict v
 
-denied : (v : Verdict rules.Table) (x : Refusal) → refusalOf {A = Unit {0}} x ≡ onwards v (λ T. accepted tt) → v ≡ refusalOf x
+-- a refusal that is heard of v is v's
+pub denied : {A : Type 0} (v : Verdict A) (x : Refusal) → refusalOf {A = Unit {0}} x ≡ onwards v (λ _. accepted tt) → v ≡ refusalOf x
 unfolding onwards
 denied (accepted T) x e = let (n, a, b, z, _) = refusal (Unit {0}) (Unit {0}) x in never-refused (sym z ∙ e)
-denied (refused m c d) x e = let (n, a, b, y, z) = refusal rules.Table (Unit {0}) x in cc
+denied {A} (refused m c d) x e = let (n, a, b, y, z) = refusal A (Unit {0}) x in cc
 
 module _ {v : Verdict rules.Table} {r : Judged} (j : JudgedAs v r) where
   -- what the code refuses is refused so

@@ -11,9 +11,11 @@ use Rattle.table.specs.Tables.{opOf}
 use Rattle.reading.specs.declared.Next.{Next}
 use Rattle.reading.specs.declared.Next.the-variants.{Here, Bad}
 
--- fields 01, 02 and 03, the last for as many modes as 02 has: the words of the first modes and of the followers, one after the other
-abbrev pub lenTest : List ℕ → Test
-lenTest s = fieldTest s 0 1 2 (lenOk (num16 s 3))
+-- a first field that holds a length: field 01, and field 11 of a reply
+abbrev pub lenTest : ℕ → List ℕ → Test
+lenTest tag s = fieldTest s 0 tag 2 (lenOk (num16 s 3))
+
+-- fields 02 and 03, the last for as many modes as 02 has: the words of the first modes and of the followers, one after the other
 
 abbrev pub countsTest : List ℕ → Test
 countsTest s = fieldTest s 5 2 3 (countsOk (num8 s 8) (num8 s 9) (num8 s 10))

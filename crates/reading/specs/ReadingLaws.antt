@@ -79,6 +79,13 @@ module _ (s : List ℕ) (at tag size : ℕ) (ok : Bool) where
   pub field-ranged : (b : Bool) → accepted tt ≡ fieldOf s at tag size → b ≡ ok → ranged b at ≡ fieldTest s at tag size ok
   field-ranged b e h = ap (λ (x : Bool). ranged x at) h ∙ sym (field-split s at tag size ok ∙ then-accepts _ (sym e))
 
+  -- likewise a field that may be repeated
+  pub repeat-bad : (left : ℕ) (r : Refusal) → refusalOf r ≡ repeatOf s at left tag size → refusalOf r ≡ repeatTest s at left tag size ok
+  repeat-bad left r e = refusal-then r _ e ∙ sym (repeat-split s at tag size ok left)
+
+  pub repeat-ranged : (left : ℕ) (b : Bool) → accepted tt ≡ repeatOf s at left tag size → b ≡ ok → ranged b at ≡ repeatTest s at left tag size ok
+  repeat-ranged left b e h = ap (λ (x : Bool). ranged x at) h ∙ sym (repeat-split s at tag size ok left ∙ then-accepts _ (sym e))
+
 -- the ranges of an operation ask only for the table's length and counts
 pub op-judged : (T : rules.Table) {w o : rules.Op} {b : Bool} → b ≡ opOk (counted (T .len) (T .boards) (T .cells) (T .modes)) w → w ≡ o → opOk T o ≡ b
 unfolding opOk
@@ -114,11 +121,11 @@ pub record HeadFits (s : List ℕ) : Type 0 where
 
 module _ (s : List ℕ) where
   -- the tests of the head, one after the other
-  pub head-tests : headTest s ≡ (lenTest s then countsTest s then modesTest (num8 s 10) s then needed s (18 + 4 * num8 s 10))
+  pub head-tests : headTest s ≡ (lenTest 1 s then countsTest s then modesTest (num8 s 10) s then needed s (18 + 4 * num8 s 10))
   unfolding headOf
   head-tests = head-row s ∙ rw (← sets-first s (num8 s 10) (num8 s 10))
 
-  module _ (len : accepted tt ≡ lenTest s) where
+  module _ (len : accepted tt ≡ lenTest 1 s) where
     pub after-len : headTest s ≡ (countsTest s then modesTest (num8 s 10) s then needed s (18 + 4 * num8 s 10))
     after-len = head-tests ∙ then-accepts _ (sym len)
 
@@ -173,33 +180,45 @@ unfolding _then_ onwards
 then-onwards (accepted y) w x f e = e refl
 then-onwards (refused n a b) w x f e = refl
 
-module _ (T : rules.Table) (s : List ℕ) where
-  -- an operation that passes is whole, and was allowed to come
-  op-passed : (left at : ℕ) → repeatTest s at left 4 18 (opOk T (opAt s at)) ≡ accepted tt → (at + 3 + 18 ≤ length s) × (left ≡ 0 → ⊥)
-  op-passed left at e =
-      repeat-passed s at 4 18 left (then-first (repeatOf s at left 4 18) _ (sym (repeat-split s at 4 18 (opOk T (opAt s at)) left) ∙ e) .1)
+module _ (tag size : ℕ) {A : Type 0} (ok : A → Bool) (value : List ℕ → ℕ → A) (s : List ℕ) where
+  -- a repeated field that passes is whole, and was allowed to come
+  pub repeat-whole : (left at : ℕ) → repeatTest s at left tag size (ok (value s at)) ≡ accepted tt → (at + 3 + size ≤ length s) × (left ≡ 0 → ⊥)
+  repeat-whole left at e =
+      repeat-passed s at tag size left
+      (then-first (repeatOf s at left tag size) _ (sym (repeat-split s at tag size (ok (value s at)) left) ∙ e) .1)
 
+  pub from-end : (left at : ℕ) → length s ≤ at → fieldsFrom tag size ok value s left at ≡ accepted []
+  from-end zero at h = fields-end tag size ok value s at ∙ rw (le-leb (length s) at h)
+  from-end (suc left) at h = fields-next tag size ok value s left at ∙ rw (le-leb (length s) at h)
+
+  -- the field at a place inside the input, and those behind it
+  pub from-next : (left at : ℕ) → at < length s
+      → fieldsFrom tag size ok value s left at
+      ≡ onwards (repeatTest s at left tag size (ok (value s at)) then accepted (value s at))
+      (λ x. more x (fieldsFrom tag size ok value s (left - 1) (at + (3 + size))))
+  from-next zero at h =
+      fields-end tag size ok value s at
+      ∙ rw (lt-leb (length s) at h)
+      (then-onwards (repeatTest s at 0 tag size (ok (value s at))) (accepted []) (value s at) _ (λ e. absurd (repeat-whole 0 at e .1 refl)))
+  from-next (suc left) at h =
+      let p : at + 3 + size ≡ at + (3 + size) = omega arith in
+      let l : suc left - 1 ≡ left = omega arith in
+      fields-next tag size ok value s left at
+      ∙ rw (lt-leb (length s) at h)
+      (then-onwards (repeatTest s at (suc left) tag size (ok (value s at))) _ (value s at)
+      (λ x. more x (fieldsFrom tag size ok value s (suc left - 1) (at + (3 + size))))
+      (λ e. rw (l, p)))
+
+module _ (T : rules.Table) (s : List ℕ) where
   ops-end : (left at : ℕ) → length s ≤ at → opsFrom T s left at ≡ accepted []
   unfolding opsFrom
-  ops-end zero at h = fields-end 4 18 (opOk T) opAt s at ∙ rw (le-leb (length s) at h)
-  ops-end (suc left) at h = fields-next 4 18 (opOk T) opAt s left at ∙ rw (le-leb (length s) at h)
+  ops-end = from-end 4 18 (opOk T) opAt s
 
   -- the operation at a place inside the input, and those behind it
   ops-next : (left at : ℕ) → at < length s
       → opsFrom T s left at ≡ onwards (opVerdict T s left at) (λ o. more o (opsFrom T s (left - 1) (at + 21)))
   unfolding opsFrom opVerdict
-  ops-next zero at h =
-      fields-end 4 18 (opOk T) opAt s at
-      ∙ rw (lt-leb (length s) at h)
-      (then-onwards (repeatTest s at 0 4 18 (opOk T (opAt s at))) (accepted []) (opAt s at) _ (λ e. absurd (op-passed 0 at e .1 refl)))
-  ops-next (suc left) at h =
-      let p : at + 3 + 18 ≡ at + 21 = omega arith in
-      let l : suc left - 1 ≡ left = omega arith in
-      fields-next 4 18 (opOk T) opAt s left at
-      ∙ rw (lt-leb (length s) at h)
-      (then-onwards (repeatTest s at (suc left) 4 18 (opOk T (opAt s at))) _ (opAt s at)
-      (λ o. more o (fieldsFrom 4 18 (opOk T) opAt s (suc left - 1) (at + 21)))
-      (λ e. rw (l, p)))
+  ops-next = from-next 4 18 (opOk T) opAt s
 
 -- where the reading of the operations stands: these are read, the table holds them, and the rest comes from a place on
 pub record SoFar (s : List ℕ) (t : Table) (at : ℕ) : Type 0 where
@@ -252,7 +271,7 @@ module _ {s : List ℕ} {t : Table} {at : ℕ} (so : SoFar s t at) where
       let H = headOf s in
       let os = so .ops in
       let here = sym (e ∙ so-same) in
-      let (whole, some) = op-passed H s (32 - length os) at (then-first _ _ here .1) in
+      let (whole, some) = repeat-whole 4 18 (opOk H) opAt s (32 - length os) at (then-first _ _ here .1) in
       let count : t .count ≡ length os = ap (λ (u : Table). u .count) (so .held) in
       let few : length os < 32 = omega arith in
       let longer = length-append os (opOf o ∷ []) in

@@ -30,7 +30,7 @@ fn byte(s: &[u8], at: usize) -> u32
 }
 
 // The answer of a range test.
-fn range_test(ok: bool, at: usize) -> Verdict
+pub fn range_test(ok: bool, at: usize) -> Verdict
     ensures { λ r. ⌜ tested r ≡ ranged ok at ⌝ }
 {
     if ok {
@@ -41,11 +41,11 @@ fn range_test(ok: bool, at: usize) -> Verdict
 
 // ---- what stands before the operations
 
-// Field 01.
-fn len_test(s: &[u8]) -> Verdict
-    ensures { λ r. ⌜ tested r ≡ lenTest (now (s .entry)) ⌝ }
+// A first field that holds a length from 1 to 1000: field 01 of a table, and field 11 of a reply.
+pub fn len_test(s: &[u8], tag: u8) -> Verdict
+    ensures { λ r. ⌜ tested r ≡ lenTest tag (now (s .entry)) ⌝ }
 {
-    let v = fields::field_test(s, 0, 1, 2);
+    let v = fields::field_test(s, 0, tag, 2);
     match v {
         Verdict::Refused(r) => Verdict::Refused(r),
         Verdict::Accepted => {
@@ -112,7 +112,7 @@ fn ops_place(modes: u32) -> usize
 fn head_test(s: &[u8]) -> Verdict
     ensures { λ r. ⌜ tested r ≡ headTest (now (s .entry)) ⌝ }
 {
-    let len = len_test(s);
+    let len = len_test(s, 1);
     if let Verdict::Refused(r) = len {
         return Verdict::Refused(r);
     }

@@ -1,0 +1,54 @@
+-- The tests before the ranges, and then the ranges of the row.
+-- Assumes nothing.
+use mathlib.Core.Path.{sym, ap, _∙_}
+use native.Mathlib.Omega.{arith}
+use Rattle.rules.specs.Rows.{Row}
+use Rattle.rules.specs.Judge.{rowOk}
+use Rattle.fields.specs.FieldLaws.{repeat-passed}
+use Rattle.reading.specs.ReadingLaws.{passed-as, refused-as, repeat-bad, repeat-ranged}
+use borrow.Author.Needs.{needs}
+use Rattle.starts.proofs.row_test.Statement.{statement}
+use Rattle.starts.proofs.row_test.Tie as tie
+
+repeat-test-requires : tie.Need-repeat-test-requires
+repeat-test-requires c κs = search needs
+
+enum-known-v : tie.Need-enum-known-v
+enum-known-v c = search needs
+
+enum-told : tie.Need-enum-told
+enum-told c = search needs
+
+row-at-requires : tie.Need-row-at-requires
+row-at-requires c κs = let f = c .before .before in omega (arith, repeat-passed _ _ _ _ _ (sym (passed-as (f .repeat-test .ensures) (c .enum-told .given .1))) .0)
+
+row-ok-requires : tie.Need-row-ok-requires
+row-ok-requires c κs = search needs
+
+range-test-requires : tie.Need-range-test-requires
+range-test-requires c κs = search needs
+
+returns : tie.Need-returns
+returns c = let f = c .before .before .before in repeat-bad _ _ _ _ _ _ (c .before .v .given .0 .0) (refused-as (f .repeat-test .ensures) (c .before .v .given .1))
+
+returns-2 : tie.Need-returns-2
+returns-2 c =
+    let b = c .before .before in
+    let f = b .before .before .before in
+    let q = f .before .before .args .q in
+    c .range-test .ensures
+    ∙ repeat-ranged _ _ _ _ _ _ _ (passed-as (f .repeat-test .ensures) (b .before .enum-told .given .1))
+    (c .before .row-ok .ensures ∙ ap (rowOk (q .0)) (b .row-at .ensures))
+
+pub row-test-spec : {M : Type 1} → statement M
+row-test-spec =
+    tie.close
+    (tie.spec
+    repeat-test-requires
+    enum-known-v
+    enum-told
+    row-at-requires
+    row-ok-requires
+    range-test-requires
+    returns
+    returns-2)
