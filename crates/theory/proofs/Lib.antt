@@ -20,6 +20,7 @@ pub mod Text
 pub mod Answering
 pub mod Copies
 pub mod RoundTrip
+pub mod Keeps
 pub mod Margins
 pub mod Bench
 pub mod ShutOut
