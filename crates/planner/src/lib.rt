@@ -1,13 +1,19 @@
-// The planner: a table's bytes in, its reply's bytes out.
+// The planner: the public functions. Each promise is in the words of `rules` alone.
 ghost use mathlib.Core.Path.{_≡_};
-ghost use Rattle.rules.specs.Answers.{IsPlan};
+ghost use Rattle.rules.specs.Answers.{IsPlan, IsUnfold, IsMargin, IsRight, IsWrite};
 ghost use Rattle.fields.specs.Verdicts.{answered, left};
 ghost use Rattle.table.specs.Tables.{tableOf, Good};
+ghost use Rattle.handed.specs.Handed.{numbers};
+ghost use Rattle.questions.specs.Questions.{measuredOf, saidOf};
 ghost use Rattle.planner.specs.Plans.{Plans};
 use fields::Answer;
 use fields::Refusal;
 use fields::Verdict;
+use questions::Measured;
+use questions::Said;
 use table::Table;
+
+// ---- a table's bytes in, its reply's bytes out
 
 // The reply to an accepted table, or ROOM.
 fn plan_table(t: Table, out: &mut [u8]) -> Answer
@@ -33,4 +39,43 @@ pub fn plan(s: &[u8], out: &mut [u8]) -> Answer
         Verdict::Refused(r) => Answer::Denied(r),
         Verdict::Accepted => plan_table(judged.table, out),
     }
+}
+
+// ---- a reply back to starts, questions about a table, and a table from numbers
+
+// The starts that a reply's rows came from, 2 bytes each. On a refusal every byte of the buffer stays.
+pub fn unfold(s: &[u8], out: &mut [u8]) -> Answer
+    ensures { λ r. ⌜ IsUnfold (now (s .entry)) (now (out .entry)) (left (answered r) (now (out .exit))) ⌝ }
+{
+    starts::unfold(s, out)
+}
+
+// The margin of operations i and j at distance n and period q.
+pub fn margin(s: &[u8], i: u64, j: u64, n: u64, q: u64) -> Measured
+    ensures { λ r. ⌜ IsMargin (now (s .entry)) i j n q (measuredOf r) ⌝ }
+{
+    questions::margin(s, i, j, n, q)
+}
+
+// Whether q is a right period.
+pub fn is_right(s: &[u8], q: u64) -> Said
+    ensures { λ r. ⌜ IsRight (now (s .entry)) q (saidOf r) ⌝ }
+{
+    questions::is_right(s, q)
+}
+
+// The bytes of a table that is handed over as numbers. On a refusal every byte of the buffer stays.
+pub fn write_table(
+    p: u64,
+    boards: u64,
+    cells: u64,
+    modes: u64,
+    first: u64,
+    follow: &[u64],
+    ops: &[u64],
+    out: &mut [u8],
+) -> Answer
+    ensures { λ r. ⌜ IsWrite (numbers p boards cells modes first (now (follow .entry)) (now (ops .entry))) (now (out .entry)) (left (answered r) (now (out .exit))) ⌝ }
+{
+    handed::write(p, boards, cells, modes, first, follow, ops, out)
 }
