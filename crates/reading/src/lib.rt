@@ -45,7 +45,7 @@ pub fn range_test(ok: bool, at: usize) -> Verdict
 pub fn len_test(s: &[u8], tag: u8) -> Verdict
     ensures { λ r. ⌜ tested r ≡ lenTest tag (now (s .entry)) ⌝ }
 {
-    let v = fields::field_test(s, 0, tag, 2);
+    let v = reader::field_at(s, 0, tag, 2);
     match v {
         Verdict::Refused(r) => Verdict::Refused(r),
         Verdict::Accepted => {
@@ -59,7 +59,7 @@ pub fn len_test(s: &[u8], tag: u8) -> Verdict
 fn counts_test(s: &[u8]) -> Verdict
     ensures { λ r. ⌜ tested r ≡ countsTest (now (s .entry)) ⌝ }
 {
-    let v = fields::field_test(s, 5, 2, 3);
+    let v = reader::field_at(s, 5, 2, 3);
     match v {
         Verdict::Refused(r) => Verdict::Refused(r),
         Verdict::Accepted => {
@@ -93,7 +93,7 @@ fn modes_test(s: &[u8], modes: u32) -> Verdict
     requires { ⌜ modes ≤ 32 ⌝ }
     ensures { λ r. ⌜ tested r ≡ modesTest modes (now (s .entry)) ⌝ }
 {
-    let v = fields::field_test(s, 11, 3, 4 + 4 * (modes as usize));
+    let v = reader::field_at(s, 11, 3, 4 + 4 * (modes as usize));
     match v {
         Verdict::Refused(r) => Verdict::Refused(r),
         Verdict::Accepted => range_test(sets_ok(s, modes), 11),
@@ -195,7 +195,7 @@ fn next_op(s: &[u8], at: usize, t: Table) -> Next
     ensures { λ r. ⌜ nextOf r ≡ opVerdict (tableOf t) (now (s .entry)) (32 - t .count) at ⌝ }
 {
     let left = 32 - t.count;
-    let v = fields::repeat_test(s, at, left, 4, 18);
+    let v = reader::repeated_at(s, at, left, 4, 18);
     match v {
         Verdict::Refused(r) => Next::Bad(r),
         Verdict::Accepted => {

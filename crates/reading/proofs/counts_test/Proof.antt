@@ -8,8 +8,8 @@ use borrow.Author.Needs.{needs}
 use Rattle.reading.proofs.counts_test.Statement.{statement}
 use Rattle.reading.proofs.counts_test.Tie as tie
 
-field-test-requires : tie.Need-field-test-requires
-field-test-requires c κs = search needs
+field-at-requires : tie.Need-field-at-requires
+field-at-requires c κs = search needs
 
 enum-known-v : tie.Need-enum-known-v
 enum-known-v c = search needs
@@ -18,19 +18,19 @@ enum-told : tie.Need-enum-told
 enum-told c = search needs
 
 byte-requires : tie.Need-byte-requires
-byte-requires c κs = let f = c .before .before in omega (arith, field-passed _ _ _ _ (sym (passed-as (f .field-test .ensures) (c .enum-told .given .1))))
+byte-requires c κs = let f = c .before .before in omega (arith, field-passed _ _ _ _ (sym (passed-as (f .field-at .ensures) (c .enum-told .given .1))))
 
 cast-boards : tie.Need-cast-boards
 cast-boards c = search needs
 
 byte-requires-2 : tie.Need-byte-requires-2
-byte-requires-2 c κs = let f = c .before .before .before in omega (arith, field-passed _ _ _ _ (sym (passed-as (f .field-test .ensures) (c .before .enum-told .given .1))))
+byte-requires-2 c κs = let f = c .before .before .before in omega (arith, field-passed _ _ _ _ (sym (passed-as (f .field-at .ensures) (c .before .enum-told .given .1))))
 
 cast-cells : tie.Need-cast-cells
 cast-cells c = search needs
 
 byte-requires-3 : tie.Need-byte-requires-3
-byte-requires-3 c κs = let f = c .before .before .before .before in omega (arith, field-passed _ _ _ _ (sym (passed-as (f .field-test .ensures) (c .before .before .enum-told .given .1))))
+byte-requires-3 c κs = let f = c .before .before .before .before in omega (arith, field-passed _ _ _ _ (sym (passed-as (f .field-at .ensures) (c .before .before .enum-told .given .1))))
 
 cast-modes : tie.Need-cast-modes
 cast-modes c = search needs
@@ -42,7 +42,7 @@ range-test-requires : tie.Need-range-test-requires
 range-test-requires c κs = search needs
 
 returns : tie.Need-returns
-returns c = let f = c .before .before .before in field-bad _ _ _ _ _ (c .before .v .given .0 .0) (refused-as (f .field-test .ensures) (c .before .v .given .1))
+returns c = let f = c .before .before .before in field-bad _ _ _ _ _ (c .before .v .given .0 .0) (refused-as (f .field-at .ensures) (c .before .v .given .1))
 
 returns-2 : tie.Need-returns-2
 returns-2 c =
@@ -51,14 +51,14 @@ returns-2 c =
     let b1 = b2 .before in
     let f = b1 .before .before .before in
     c .range-test .ensures
-    ∙ field-ranged _ _ _ _ _ _ (passed-as (f .field-test .ensures) (b1 .before .enum-told .given .1))
+    ∙ field-ranged _ _ _ _ _ _ (passed-as (f .field-at .ensures) (b1 .before .enum-told .given .1))
     (c .before .counts-ok .ensures ∙ rw (b1 .byte .ensures .0, b2 .byte2 .ensures .0, b3 .byte3 .ensures .0))
 
 pub counts-test-spec : {M : Type 1} → statement M
 counts-test-spec =
     tie.close
     (tie.spec
-    field-test-requires
+    field-at-requires
     enum-known-v
     enum-told
     byte-requires

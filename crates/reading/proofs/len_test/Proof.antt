@@ -9,8 +9,8 @@ use borrow.Author.Needs.{needs}
 use Rattle.reading.proofs.len_test.Statement.{statement}
 use Rattle.reading.proofs.len_test.Tie as tie
 
-field-test-requires : tie.Need-field-test-requires
-field-test-requires c κs = search needs
+field-at-requires : tie.Need-field-at-requires
+field-at-requires c κs = search needs
 
 enum-known-v : tie.Need-enum-known-v
 enum-known-v c = search needs
@@ -19,7 +19,7 @@ enum-told : tie.Need-enum-told
 enum-told c = search needs
 
 be16-requires : tie.Need-be16-requires
-be16-requires c κs = let f = c .before .before in omega (arith, field-passed _ _ _ _ (sym (passed-as (f .field-test .ensures) (c .enum-told .given .1))))
+be16-requires c κs = let f = c .before .before in omega (arith, field-passed _ _ _ _ (sym (passed-as (f .field-at .ensures) (c .enum-told .given .1))))
 
 cast-len-ok : tie.Need-cast-len-ok
 cast-len-ok c = search needs
@@ -31,20 +31,20 @@ range-test-requires : tie.Need-range-test-requires
 range-test-requires c κs = search needs
 
 returns : tie.Need-returns
-returns c = let f = c .before .before .before in field-bad _ _ _ _ _ (c .before .v .given .0 .0) (refused-as (f .field-test .ensures) (c .before .v .given .1))
+returns c = let f = c .before .before .before in field-bad _ _ _ _ _ (c .before .v .given .0 .0) (refused-as (f .field-at .ensures) (c .before .v .given .1))
 
 returns-2 : tie.Need-returns-2
 returns-2 c =
     let b = c .before .before in
     let f = b .before .before .before in
     c .range-test .ensures
-    ∙ field-ranged _ _ _ _ _ _ (passed-as (f .field-test .ensures) (b .before .enum-told .given .1)) (c .before .len-ok .ensures ∙ ap lenOk (b .be16 .ensures .0))
+    ∙ field-ranged _ _ _ _ _ _ (passed-as (f .field-at .ensures) (b .before .enum-told .given .1)) (c .before .len-ok .ensures ∙ ap lenOk (b .be16 .ensures .0))
 
 pub len-test-spec : {M : Type 1} → statement M
 len-test-spec =
     tie.close
     (tie.spec
-    field-test-requires
+    field-at-requires
     enum-known-v
     enum-told
     be16-requires

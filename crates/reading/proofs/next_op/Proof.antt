@@ -15,8 +15,8 @@ use Rattle.reading.proofs.next_op.Tie as tie
 sub-left : tie.Need-sub-left
 sub-left c = search needs
 
-repeat-test-requires : tie.Need-repeat-test-requires
-repeat-test-requires c κs = search needs
+repeated-at-requires : tie.Need-repeated-at-requires
+repeated-at-requires c κs = search needs
 
 enum-known-v : tie.Need-enum-known-v
 enum-known-v c = search needs
@@ -27,7 +27,7 @@ enum-told c = search needs
 read-op-requires : tie.Need-read-op-requires
 read-op-requires c κs =
     let f = c .before .before in
-    omega (arith, repeat-passed _ _ _ _ _ (sym (passed-as (f .repeat-test .ensures) (c .enum-told .given .1))) .0)
+    omega (arith, repeat-passed _ _ _ _ _ (sym (passed-as (f .repeated-at .ensures) (c .enum-told .given .1))) .0)
 
 wide-ok-requires : tie.Need-wide-ok-requires
 wide-ok-requires c κs = search needs
@@ -39,7 +39,7 @@ returns c =
     let f = e .before .before in
     let a = f .before .before .before .args in
     let T = tableOf (a .t) in
-    op-range T _ _ _ (passed-as (f .repeat-test .ensures) (e .enum-told .given .1))
+    op-range T _ _ _ (passed-as (f .repeated-at .ensures) (e .enum-told .given .1))
     (op-judged T (sym (not-true _ (c .if1 .taken)) ∙ w .wide-ok .ensures) (w .before .read-op .ensures))
 
 narrow-requires : tie.Need-narrow-requires
@@ -52,7 +52,7 @@ returns-2 : tie.Need-returns-2
 returns-2 c =
     let f = c .before .before .before in
     let a = f .before .before .before .args in
-    op-bad (tableOf (a .t)) _ _ _ (c .before .v .given .0 .0) (refused-as (f .repeat-test .ensures) (c .before .v .given .1))
+    op-bad (tableOf (a .t)) _ _ _ (c .before .v .given .0 .0) (refused-as (f .repeated-at .ensures) (c .before .v .given .1))
 
 returns-3 : tie.Need-returns-3
 returns-3 c =
@@ -62,7 +62,7 @@ returns-3 c =
     let a = f .before .before .before .args in
     let T = tableOf (a .t) in
     ap accepted (c .narrow .ensures ∙ w .before .read-op .ensures)
-    ∙ op-fine T _ _ _ (passed-as (f .repeat-test .ensures) (e .enum-told .given .1))
+    ∙ op-fine T _ _ _ (passed-as (f .repeated-at .ensures) (e .enum-told .given .1))
     (op-judged T (sym (not-false _ (c .before .if1 .left)) ∙ w .wide-ok .ensures) (w .before .read-op .ensures))
 
 pub next-op-spec : {M : Type 1} → statement M
@@ -70,7 +70,7 @@ next-op-spec =
     tie.close
     (tie.spec
     sub-left
-    repeat-test-requires
+    repeated-at-requires
     enum-known-v
     enum-told
     read-op-requires
