@@ -39,7 +39,7 @@ fn row_test(s: &[u8], at: usize, left: usize, q: Ticks) -> Verdict
     requires { ⌜ at < length (now s) ⌝ }
     ensures { λ r. ⌜ tested r ≡ repeatTest (now (s .entry)) at left 18 4 (rowOk (q .0) (rowAt (now (s .entry)) at)) ⌝ }
 {
-    let v = fields::repeat_test(s, at, left, 18, 4);
+    let v = reader::repeated_at(s, at, left, 18, 4);
     match v {
         Verdict::Refused(r) => Verdict::Refused(r),
         Verdict::Accepted => {

@@ -4,6 +4,7 @@ use mathlib.Core.Path.{_≡_, refl, ap, _∙_}
 use Prim.Native.Nat.{ℕ}
 use mathlib.Core.Bool.{Bool}
 use mathlib.Core.List.{List}
+use lib.IntN.{ℤ}
 use Rattle.rules.specs.Verdicts.{accepted, refused, onwards}
 use Rattle.rules.specs.Verdicts as rules
 use Rattle.rules.specs.Table.{Table}
@@ -16,7 +17,7 @@ use Rattle.table.specs.declared.Judged.{Judged}
 use Rattle.table.specs.Tables.{JudgedAs}
 use Rattle.table.specs.JudgedLaws.{refusal-is}
 use Rattle.trevozhil.specs.declared.Said.{Said}
-use Rattle.trevozhil.specs.Said.{saidOf, unwritten, left, yesOf}
+use Rattle.trevozhil.specs.Said.{said, saidOf, unwritten, left, yesOf, measure, measureOf}
 
 -- a refusal says the same, whatever would have been accepted
 refusal-unwritten : (r : Refusal) → refusalOf r ≡ unwritten (tested (Refused r))
@@ -53,3 +54,13 @@ left-said {buffer = buffer} e = ap (λ (w : Said). left w buffer) e
 pub refusal-yes : (r : Refusal) → saidOf (refusalOf r) ≡ saidOf (yesOf (refusalOf r))
 unfolding yesOf onwards
 refusal-yes r = let (n, a, b, x, y) = refusal-is {A = ℕ} {B = Bool} r in rw (x, y)
+
+-- a margin is told as 0 0 0 and left in its place
+pub margin-left : {w : Said} {y : ℤ} (z before : ℤ) → w ≡ said 0 0 0 → y ≡ z → measure w y ≡ measureOf (accepted z) before
+unfolding measureOf
+margin-left z before e f = λ i. measure (e i) (f i)
+
+-- a refusal is told, and the place for the margin stays
+pub margin-kept : (r : Refusal) {w : Said} (before : ℤ) → w ≡ saidOf (refusalOf r) → measure w before ≡ measureOf (refusalOf r) before
+unfolding measureOf
+margin-kept r before e = let (n, a, b, x, y) = refusal-is {A = ℕ} {B = ℤ} r in ap (λ (w : Said). measure w before) (e ∙ ap saidOf x) ∙ rw y

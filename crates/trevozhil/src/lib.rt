@@ -3,7 +3,7 @@ ghost use mathlib.Core.Path.{_≡_};
 ghost use mathlib.Core.Bool.{cond};
 ghost use Rattle.fields.specs.Verdicts.{refusalOf, verdictOn, answered};
 ghost use Rattle.handed.specs.Handed.{numbers};
-ghost use Rattle.trevozhil.specs.Said.{said, saidOf, left, yesOf, JudgeSays, NumbersSay, WriteLeaves, PeriodSays, RightSays};
+ghost use Rattle.trevozhil.specs.Said.{said, saidOf, left, yesOf, measure, measureOf, JudgeSays, NumbersSay, WriteLeaves, PlanLeaves, UnfoldLeaves, PeriodSays, RightSays, MarginLeaves};
 ghost use Rattle.questions.specs.Questions as questions;
 use fields::Answer;
 use fields::Refusal;
@@ -82,6 +82,19 @@ fn right_said(x: questions::Said) -> Said
     }
 }
 
+// The answer to a question about a margin; the margin is left with the caller.
+fn margin_said(x: questions::Measured, margin: &mut i32) -> Said
+    ensures { λ w. ⌜ measure w (now (margin .exit)) ≡ measureOf (questions.measuredOf x) (now (margin .entry)) ⌝ }
+{
+    match x {
+        questions::Measured::Margin(z) => {
+            *margin = z;
+            figures(0, 0, 0)
+        }
+        questions::Measured::Denied(r) => refusal_said(r),
+    }
+}
+
 // Leaves the figures with the caller and returns the number.
 fn tell(w: Said, a: &mut u64, b: &mut u64) -> u32
     ensures { λ r. ⌜ said r (now (a .exit)) (now (b .exit)) ≡ w ⌝ }
@@ -139,7 +152,7 @@ pub extern "C" fn trevozhil_write(
 ) -> u32
     ensures { λ r. ⌜ WriteLeaves (numbers p boards cells modes first (now (follow .entry)) (now (ops .entry))) (now (out .entry)) (left (said r (now (a .exit)) (now (b .exit))) (now (out .exit))) ⌝ }
 {
-    let answer = handed::write(p, boards, cells, modes, first, follow, ops, out);
+    let answer = planner::write_table(p, boards, cells, modes, first, follow, ops, out);
     tell(answer_said(answer), a, b)
 }
 
@@ -157,6 +170,42 @@ pub extern "C" fn trevozhil_period(s: &[u8], a: &mut u64, b: &mut u64) -> u32
 pub extern "C" fn trevozhil_is_right(s: &[u8], q: u64, a: &mut u64, b: &mut u64) -> u32
     ensures { λ r. ⌜ RightSays (now (s .entry)) q (said r (now (a .exit)) (now (b .exit))) ⌝ }
 {
-    let answer = questions::is_right(s, q);
+    let answer = planner::is_right(s, q);
     tell(right_said(answer), a, b)
+}
+
+// The reply to a table: its period and rows.
+#[no_mangle]
+pub extern "C" fn trevozhil_plan(s: &[u8], out: &mut [u8], a: &mut u64, b: &mut u64) -> u32
+    ensures { λ r. ⌜ PlanLeaves (now (s .entry)) (now (out .entry)) (left (said r (now (a .exit)) (now (b .exit))) (now (out .exit))) ⌝ }
+{
+    let answer = planner::plan(s, out);
+    tell(answer_said(answer), a, b)
+}
+
+// The starts that a reply's rows came from.
+#[no_mangle]
+pub extern "C" fn trevozhil_unfold(s: &[u8], out: &mut [u8], a: &mut u64, b: &mut u64) -> u32
+    ensures { λ r. ⌜ UnfoldLeaves (now (s .entry)) (now (out .entry)) (left (said r (now (a .exit)) (now (b .exit))) (now (out .exit))) ⌝ }
+{
+    let answer = planner::unfold(s, out);
+    tell(answer_said(answer), a, b)
+}
+
+// The margin of two operations of a table.
+#[no_mangle]
+pub extern "C" fn trevozhil_margin(
+    s: &[u8],
+    i: u64,
+    j: u64,
+    n: u64,
+    q: u64,
+    margin: &mut i32,
+    a: &mut u64,
+    b: &mut u64,
+) -> u32
+    ensures { λ r. ⌜ MarginLeaves (now (s .entry)) i j n q (now (margin .entry)) (measure (said r (now (a .exit)) (now (b .exit))) (now (margin .exit))) ⌝ }
+{
+    let answer = planner::margin(s, i, j, n, q);
+    tell(margin_said(answer, margin), a, b)
 }

@@ -10,8 +10,8 @@ use borrow.Author.Needs.{needs}
 use Rattle.starts.proofs.row_test.Statement.{statement}
 use Rattle.starts.proofs.row_test.Tie as tie
 
-repeat-test-requires : tie.Need-repeat-test-requires
-repeat-test-requires c κs = search needs
+repeated-at-requires : tie.Need-repeated-at-requires
+repeated-at-requires c κs = search needs
 
 enum-known-v : tie.Need-enum-known-v
 enum-known-v c = search needs
@@ -20,7 +20,7 @@ enum-told : tie.Need-enum-told
 enum-told c = search needs
 
 row-at-requires : tie.Need-row-at-requires
-row-at-requires c κs = let f = c .before .before in omega (arith, repeat-passed _ _ _ _ _ (sym (passed-as (f .repeat-test .ensures) (c .enum-told .given .1))) .0)
+row-at-requires c κs = let f = c .before .before in omega (arith, repeat-passed _ _ _ _ _ (sym (passed-as (f .repeated-at .ensures) (c .enum-told .given .1))) .0)
 
 row-ok-requires : tie.Need-row-ok-requires
 row-ok-requires c κs = search needs
@@ -29,7 +29,7 @@ range-test-requires : tie.Need-range-test-requires
 range-test-requires c κs = search needs
 
 returns : tie.Need-returns
-returns c = let f = c .before .before .before in repeat-bad _ _ _ _ _ _ (c .before .v .given .0 .0) (refused-as (f .repeat-test .ensures) (c .before .v .given .1))
+returns c = let f = c .before .before .before in repeat-bad _ _ _ _ _ _ (c .before .v .given .0 .0) (refused-as (f .repeated-at .ensures) (c .before .v .given .1))
 
 returns-2 : tie.Need-returns-2
 returns-2 c =
@@ -37,14 +37,14 @@ returns-2 c =
     let f = b .before .before .before in
     let q = f .before .before .args .q in
     c .range-test .ensures
-    ∙ repeat-ranged _ _ _ _ _ _ _ (passed-as (f .repeat-test .ensures) (b .before .enum-told .given .1))
+    ∙ repeat-ranged _ _ _ _ _ _ _ (passed-as (f .repeated-at .ensures) (b .before .enum-told .given .1))
     (c .before .row-ok .ensures ∙ ap (rowOk (q .0)) (b .row-at .ensures))
 
 pub row-test-spec : {M : Type 1} → statement M
 row-test-spec =
     tie.close
     (tie.spec
-    repeat-test-requires
+    repeated-at-requires
     enum-known-v
     enum-told
     row-at-requires

@@ -6,8 +6,8 @@ use borrow.Author.Needs.{needs}
 use Rattle.trevozhil.proofs.trevozhil_write.Statement.{statement}
 use Rattle.trevozhil.proofs.trevozhil_write.Tie as tie
 
-write-requires : tie.Need-write-requires
-write-requires c κs = search needs
+write-table-requires : tie.Need-write-table-requires
+write-table-requires c κs = search needs
 
 answer-said-requires : tie.Need-answer-said-requires
 answer-said-requires c κs = search needs
@@ -21,8 +21,8 @@ same-length c = search needs
 returns : tie.Need-returns
 returns c =
     let x = c .before .before .before in
-    (_, x .before .before .before .write .ensures, left-said (c .tell .ensures ∙ x .answer-said .ensures))
+    (_, x .before .before .before .write-table .ensures, left-said (c .tell .ensures ∙ x .answer-said .ensures))
 
 pub trevozhil-write-spec : {M : Type 1} → statement M
 trevozhil-write-spec =
-    tie.close (tie.spec write-requires answer-said-requires tell-requires same-length returns)
+    tie.close (tie.spec write-table-requires answer-said-requires tell-requires same-length returns)
