@@ -1,8 +1,10 @@
 -- The code's verdicts in document 01's numbers.
 -- Assumes nothing.
 use Prim.Native.Nat.{ℕ}
+use mathlib.Core.List.{List}
 use Rattle.rules.specs.Verdicts.{accepted, refused, SHORT, ORDER, SIZE, RANGE, MANY, CLASH, RACE, ROOM, ASK}
 use Rattle.rules.specs.Verdicts as rules
+use Rattle.rules.specs.Answers.{Written}
 use Rattle.fields.specs.declared.Refusal.{Refusal}
 use Rattle.fields.specs.declared.Refusal.the-variants.{Short, Order, Size, Range, Many, Clash, Race, Room, Ask}
 use Rattle.fields.specs.declared.Answer.{Answer}
@@ -35,3 +37,7 @@ tested v = verdictOn v tt
 abbrev pub answered : Answer → rules.Verdict ℕ
 answered (Wrote n) = accepted n
 answered (Denied r) = refusalOf r
+
+-- what is answered, and what the buffer holds then
+abbrev pub left : rules.Verdict ℕ → List ℕ → Written
+left answer buffer = record { answer = answer; buffer = buffer }

@@ -16,13 +16,9 @@ use Rattle.theory.specs.Tests.{periodOf}
 use Rattle.theory.proofs.Bytes.{reply-length}
 use Rattle.theory.proofs.Exists.{period-found}
 use Rattle.theory.proofs.Answering.{put-room, put-short}
-use Rattle.fields.specs.Verdicts.{refusalOf}
+use Rattle.fields.specs.Verdicts.{refusalOf, left}
 use Rattle.fields.specs.declared.Refusal.{Refusal}
 use Rattle.table.specs.JudgedLaws.{refusal-is}
-
--- what is answered, and what the buffer holds then
-abbrev pub left : Verdict ℕ → List ℕ → Written
-left answer buffer = record { answer = answer; buffer = buffer }
 
 -- the reply's bytes at the table's period, or ROOM
 abbrev pub Plans : Table → List ℕ → Written → Type 0

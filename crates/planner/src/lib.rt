@@ -1,9 +1,9 @@
 // The planner: a table's bytes in, its reply's bytes out.
 ghost use mathlib.Core.Path.{_≡_};
 ghost use Rattle.rules.specs.Answers.{IsPlan};
-ghost use Rattle.fields.specs.Verdicts.{answered};
+ghost use Rattle.fields.specs.Verdicts.{answered, left};
 ghost use Rattle.table.specs.Tables.{tableOf, Good};
-ghost use Rattle.planner.specs.Plans.{Plans, left};
+ghost use Rattle.planner.specs.Plans.{Plans};
 use fields::Answer;
 use fields::Refusal;
 use fields::Verdict;
