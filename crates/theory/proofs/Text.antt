@@ -69,6 +69,10 @@ module _ (P : ℕ → List ℕ → Type 0) (small : (n : ℕ) → n < 10 → P n
 pub decimal-some : (n : ℕ) → 1 ≤ length (decimal n)
 decimal-some = by-digits (λ n ds. 1 ≤ length ds) (λ n h. omega arith) (λ n h some. omega (arith, length-append (decimal (n / 10)) ((48 + n % 10) ∷ [])))
 
+-- one more than without the last
+pub decimal-grows : (n : ℕ) → 10 ≤ n → length (decimal n) ≡ length (decimal (n / 10)) + 1
+decimal-grows n h = ap length (decimal-more n h) ∙ length-append (decimal (n / 10)) ((48 + n % 10) ∷ [])
+
 length-step : (k n : ℕ) → (10 ≤ n → length (decimal (n / 10)) ≤ suc k) → length (decimal n) ≤ suc (suc k)
 length-step k n rest = go (decLt n 10)
   where
@@ -77,7 +81,7 @@ length-step k n rest = go (decLt n 10)
     go (no h) =
         let large : 10 ≤ n = omega arith in
         let front : length (decimal (n / 10)) ≤ suc k = rest large in
-        omega (arith, ap length (decimal-more n large), length-append (decimal (n / 10)) ((48 + n % 10) ∷ []))
+        omega (arith, decimal-grows n large)
 
 -- a number below 10 ^ k has at most k digits
 pub decimal-length : (k n : ℕ) → n < 10 ^ suc k → length (decimal n) ≤ suc k

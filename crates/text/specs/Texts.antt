@@ -1,0 +1,11 @@
+-- What a function that writes a piece of the text leaves.
+-- Assumes nothing.
+use Prim.Native.Nat.{ℕ, _+_}
+use mathlib.Core.Path.{_≡_}
+use mathlib.Core.List.{List}
+use lib.ListN.{length}
+use Rattle.puts.specs.Puts.{stored}
+
+-- from the buffer out, end with the bytes stored at a place, and n the place behind them
+abbrev pub Puts : List ℕ → List ℕ → ℕ → ℕ → List ℕ → Type 0
+Puts out end at n bytes = (end ≡ stored out at bytes) × (n ≡ at + length bytes)
