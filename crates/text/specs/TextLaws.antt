@@ -7,11 +7,15 @@ use native.Mathlib.Omega.{arith}
 use native.Mathlib.Numerals.{add-one}
 use lib.ListN.{length, getD, take, set, length-append}
 use lib.Seq.{take-suc, length-take-le}
-use Rattle.rules.specs.Text.{decimal}
-use Rattle.theory.proofs.Text.{decimal-small, decimal-more}
+use Rattle.rules.specs.Verdicts.{accepted, refused, ROOM}
+use Rattle.rules.specs.Text.{decimal, periodWord, newline, periodLine}
+use Rattle.rules.specs.Answers.{put}
+use Rattle.theory.proofs.Text.{decimal-small, decimal-more, period-line}
+use Rattle.theory.proofs.Answering.{put-room, put-short}
+use Rattle.fields.specs.Verdicts.{left}
 use Rattle.puts.specs.Puts.{stored}
-use Rattle.puts.specs.PutLaws.{stored-then}
-use Rattle.text.specs.Texts.{Puts}
+use Rattle.puts.specs.PutLaws.{stored-then, stored-front}
+use Rattle.text.specs.Texts.{Puts, lineOf}
 
 -- bytes behind bytes
 pub puts-then : (out : List ℕ) (at : ℕ) (xs ys : List ℕ) {mid end : List ℕ} {m n : ℕ} → Puts out mid at m xs → Puts mid end m n ys
@@ -43,3 +47,31 @@ module _ (out : List ℕ) (at : ℕ) (w : List ℕ) where
   copy-turn i {mid} h e =
       rw (add-one, take-suc w i 0 h)
       (stored-then out at (take i w) (getD w i 0 ∷ []) e (omega (arith, length-take-le i w (omega arith))) (puts-one mid (at + i) (getD w i 0) .0))
+
+-- ---- a line's end behind its parts
+module _ (out : List ℕ) (at : ℕ) where
+  pub period-put : (q : ℕ) {mid end : List ℕ} {m n : ℕ} → Puts out mid at m (periodWord ++ decimal q) → Puts mid end m n newline
+      → Puts out end at n (periodLine q)
+  period-put q a b = rw (period-line q) (puts-then out at (periodWord ++ decimal q) newline a b)
+
+  pub line-put : (u : List ℕ) (x : ℕ) (v : List ℕ) (y : ℕ) (w : List ℕ) (z : ℕ) {one two three end : List ℕ} {m k l n : ℕ}
+      → Puts out one at m (u ++ decimal x) → Puts one two m k (v ++ decimal y) → Puts two three k l (w ++ decimal z)
+      → Puts three end l n newline → Puts out end at n (lineOf u x v y w z)
+  line-put u x v y w z a b c d =
+      let first = puts-then out at (u ++ decimal x) (v ++ decimal y) a b in
+      let all = puts-then out at (u ++ decimal x ++ (v ++ decimal y)) (w ++ decimal z) first c in
+      puts-then out at (u ++ decimal x ++ (v ++ decimal y) ++ (w ++ decimal z)) newline all d
+
+pub line-length : (u : List ℕ) (x : ℕ) (v : List ℕ) (y : ℕ) (w : List ℕ) (z : ℕ)
+    → length (lineOf u x v y w z) ≡ length (u ++ decimal x) + length (v ++ decimal y) + length (w ++ decimal z) + 1
+line-length u x v y w z =
+    length-append (u ++ decimal x ++ (v ++ decimal y) ++ (w ++ decimal z)) newline
+    ∙ omega (arith, length-append (u ++ decimal x ++ (v ++ decimal y)) (w ++ decimal z), length-append (u ++ decimal x) (v ++ decimal y))
+
+-- ---- a text put from the front of a buffer
+module _ (text out : List ℕ) where
+  pub text-short : length out < length text → left (refused ROOM (length text) 0) out ≡ put text out
+  text-short h = sym (put-short text out h)
+
+  pub text-room : {end : List ℕ} {n : ℕ} → length text ≤ length out → Puts out end 0 n text → left (accepted (length text)) end ≡ put text out
+  text-room h (e, p) = ap (left (accepted (length text))) (e ∙ stored-front out text h) ∙ sym (put-room text out h)

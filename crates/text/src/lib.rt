@@ -1,9 +1,27 @@
 // The text that `fold` prints: numbers in decimal, and the lines of a reply or of a refusal.
+ghost use mathlib.Core.Path.{_≡_};
 ghost use mathlib.Core.List.{_++_};
-ghost use Prim.Native.Nat.{_+_, _≤_};
+ghost use Prim.Native.Nat.{_+_, _*_, _≤_};
 ghost use lib.ListN.{length};
-ghost use Rattle.rules.specs.Text.{decimal, periodLine};
-ghost use Rattle.text.specs.Texts.{Puts};
+ghost use Rattle.rules.specs.Rows.{Reply, replyOf};
+ghost use Rattle.rules.specs.Verdicts.{refused};
+ghost use Rattle.rules.specs.Text.{decimal, rowLine, rowLines, periodLine, refusedLine, replyText, textOf};
+ghost use Rattle.rules.specs.Answers.{put};
+ghost use Rattle.fields.specs.Verdicts.{refusalOf, answered, left};
+ghost use Rattle.table.specs.Tables.{tableOf, Good};
+ghost use Rattle.rows.specs.Rows.{rowOf};
+ghost use Rattle.text.specs.Texts.{Puts, lineOf};
+use fields::Answer;
+use fields::Refusal;
+use rows::Row;
+use table::Table;
+
+// A refusal in numbers.
+pub struct Figures {
+    pub number: u64,
+    pub a: usize,
+    pub b: usize,
+}
 
 // A number's digits, the highest first; the place behind them.
 fn put_decimal(out: &mut [u8], at: usize, n: u64) -> usize
@@ -49,4 +67,64 @@ fn put_period_line(out: &mut [u8], at: usize, q: u32) -> usize
 {
     let end = put_part(out, at, b"period ", q as u64);
     put_bytes(out, end, b"\n")
+}
+
+// A line of three words, each with a number behind it.
+fn put_line(out: &mut [u8], at: usize, u: &[u8], x: u64, v: &[u8], y: u64, w: &[u8], z: u64) -> usize
+    requires { ⌜ at + length (lineOf (now u) x (now v) y (now w) z) ≤ length (now out) ⌝ }
+    ensures { λ r. ⌜ Puts (now (out .entry)) (now (out .exit)) at r (lineOf (now (u .entry)) x (now (v .entry)) y (now (w .entry)) z) ⌝ }
+{
+    let first = put_part(out, at, u, x);
+    let second = put_part(out, first, v, y);
+    let third = put_part(out, second, w, z);
+    put_bytes(out, third, b"\n")
+}
+
+// "op i start s fst f"
+fn put_row_line(out: &mut [u8], at: usize, i: usize, r: Row) -> usize
+    requires { ⌜ at + length (rowLine i (rowOf r)) ≤ length (now out) ⌝ }
+    ensures { λ x. ⌜ Puts (now (out .entry)) (now (out .exit)) at x (rowLine i (rowOf r)) ⌝ }
+{
+    let start = r.start.0 as u64;
+    let fst = r.fst.0 as u64;
+    put_line(out, at, b"op ", i as u64, b" start ", start, b" fst ", fst)
+}
+
+// "refused n a b"
+fn put_refused_line(out: &mut [u8], at: usize, f: Figures) -> usize
+    requires { ⌜ at + length (refusedLine (f .number) (f .a) (f .b)) ≤ length (now out) ⌝ }
+    ensures { λ x. ⌜ Puts (now (out .entry)) (now (out .exit)) at x (refusedLine (f .number) (f .a) (f .b)) ⌝ }
+{
+    let a = f.a as u64;
+    let b = f.b as u64;
+    put_line(out, at, b"refused ", f.number, b" ", a, b" ", b)
+}
+
+// A refusal's number, a and b.
+fn figures_of(r: Refusal) -> Figures
+    ensures { λ f. ⌜ refusalOf {A = Reply} r ≡ refused (f .number) (f .a) (f .b) ⌝ }
+{
+    match r {
+        Refusal::Short(at) => Figures { number: 1, a: at, b: 0 },
+        Refusal::Order(at) => Figures { number: 2, a: at, b: 0 },
+        Refusal::Size(at) => Figures { number: 3, a: at, b: 0 },
+        Refusal::Range(at) => Figures { number: 4, a: at, b: 0 },
+        Refusal::Many(at) => Figures { number: 5, a: at, b: 0 },
+        Refusal::Clash(i, j) => Figures { number: 6, a: i, b: j },
+        Refusal::Race(i, j) => Figures { number: 7, a: i, b: j },
+        Refusal::Room(n) => Figures { number: 8, a: n, b: 0 },
+        Refusal::Ask(place) => Figures { number: 9, a: place, b: 0 },
+    }
+}
+
+// The text from the front of the buffer, or ROOM.
+fn put_text(out: &mut [u8], text: &[u8]) -> Answer
+    ensures { λ r. ⌜ left (answered r) (now (out .exit)) ≡ put (now (text .entry)) (now (out .entry)) ⌝ }
+{
+    let n = text.len();
+    if out.len() < n {
+        return Answer::Denied(Refusal::Room(n));
+    }
+    put_bytes(out, 0, text);
+    Answer::Wrote(n)
 }

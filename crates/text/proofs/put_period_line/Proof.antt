@@ -1,34 +1,38 @@
+-- The word with the period, and the end of the line.
+-- Assumes nothing.
+use mathlib.Core.Path.{_≡_}
+use native.Mathlib.Omega.{arith}
+use lib.ListN.{length}
+use Rattle.theory.proofs.Text.{period-length}
+use Rattle.text.specs.TextLaws.{period-put}
 use borrow.Author.Needs.{needs}
 use Rattle.text.proofs.put_period_line.Statement.{statement}
 use Rattle.text.proofs.put_period_line.Tie as tie
-use Rattle.text.proofs.put_period_line.Reads as reads
-use Rattle.text.proofs.put_period_line.Lts as lts
-use Rattle.text.proofs.put_bytes.Reads as put-bytes-reads
-use Rattle.text.proofs.put_part.Reads as put-part-reads
 
--- src/lib.rt:50:33
 slice-aggregate-put-part : tie.Need-slice-aggregate-put-part
 slice-aggregate-put-part c = search needs
 
--- src/lib.rt:50:9
 put-part-requires : tie.Need-put-part-requires
-put-part-requires c κs = ?
+put-part-requires c κs = omega (arith, period-length (c .before .before .before .args .q))
 
--- src/lib.rt:51:25
 slice-aggregate-put-bytes : tie.Need-slice-aggregate-put-bytes
 slice-aggregate-put-bytes c = search needs
 
--- src/lib.rt:51:5
 put-bytes-requires : tie.Need-put-bytes-requires
-put-bytes-requires c κs = ?
+put-bytes-requires c κs =
+    let part = c .before .before .before .before .put-part in
+    let a = c .before .before .before .before .before .before .before .before .args in
+    let long : length (part .last .0) ≡ length (a .out .now) = part .kept .0 in
+    omega (arith, part .ensures .1, period-length (a .q))
 
--- src/lib.rt:46:1
 same-length : tie.Need-same-length
 same-length c = search needs
 
--- src/lib.rt:46:1
 returns : tie.Need-returns
-returns c = ?
+returns c =
+    let second = c .before .before in
+    let first = second .before .before .before .before .before in
+    period-put _ _ _ (first .put-part .ensures) (second .put-bytes .ensures)
 
 pub put-period-line-spec : {M : Type 1} → statement M
 put-period-line-spec =
