@@ -100,6 +100,21 @@ fn put_refused_line(out: &mut [u8], at: usize, f: Figures) -> usize
     put_line(out, at, b"refused ", f.number, b" ", a, b" ", b)
 }
 
+// The lines of the table's rows at the period q, each of 24 bytes at most.
+fn put_row_lines(out: &mut [u8], at: usize, t: Table, q: u32) -> usize
+    requires { ⌜ Good t × (1 ≤ q) × (q ≤ t .len) × (at + 24 * t .count ≤ length (now out)) ⌝ }
+    ensures { λ r. ⌜ Puts (now (out .entry)) (now (out .exit)) at r (rowLines 0 (replyOf (tableOf t) q .rows)) ⌝ }
+{
+    let mut end = at;
+    let mut i: usize = 0;
+    while i < t.count {
+        let r = replies::row_of(t, i, q);
+        end = put_row_line(out, end, i, r);
+        i += 1;
+    }
+    end
+}
+
 // A refusal's number, a and b.
 fn figures_of(r: Refusal) -> Figures
     ensures { λ f. ⌜ refusalOf {A = Reply} r ≡ refused (f .number) (f .a) (f .b) ⌝ }
@@ -127,4 +142,26 @@ fn put_text(out: &mut [u8], text: &[u8]) -> Answer
     }
     put_bytes(out, 0, text);
     Answer::Wrote(n)
+}
+
+// The text of a table folded at the period q, from the front of the buffer, or ROOM.
+pub fn put_reply(out: &mut [u8], t: Table, q: u32) -> Answer
+    requires { ⌜ Good t × (1 ≤ q) × (q ≤ t .len) ⌝ }
+    ensures { λ r. ⌜ left (answered r) (now (out .exit)) ≡ put (replyText (replyOf (tableOf t) q)) (now (out .entry)) ⌝ }
+{
+    // 12 bytes for the period, and 24 for each of 32 rows, are fewer.
+    let mut text = [0u8; 800];
+    let end = put_period_line(&mut text, 0, q);
+    let n = put_row_lines(&mut text, end, t, q);
+    put_text(out, &text[..n])
+}
+
+// The line of a refusal, or ROOM.
+pub fn put_refusal(out: &mut [u8], r: Refusal) -> Answer
+    ensures { λ x. ⌜ left (answered x) (now (out .exit)) ≡ put (textOf (refusalOf r)) (now (out .entry)) ⌝ }
+{
+    // 11 bytes and three numbers of 20 digits at most are fewer.
+    let mut text = [0u8; 80];
+    let n = put_refused_line(&mut text, 0, figures_of(r));
+    put_text(out, &text[..n])
 }

@@ -172,6 +172,15 @@ refused-line n a b = refused-open n a b ∙ by-pairs refusedWord (decimal n) spa
 pub refused-length : (n a b : ℕ) → length (refusedLine n a b) ≡ 11 + length (decimal n) + length (decimal a) + length (decimal b)
 refused-length n a b = omega (arith, simp length-append at (ap length (refused-open n a b)))
 
+-- numbers of at most 20 digits, as those of 64 bits
+pub refused-short : (n a b : ℕ) → n < 2 ^ 64 → a < 2 ^ 64 → b < 2 ^ 64 → length (refusedLine n a b) ≤ 71
+refused-short n a b h g f =
+    omega (arith, refused-length n a b, decimal-length 19 n (omega arith), decimal-length 19 a (omega arith), decimal-length 19 b (omega arith))
+
+-- a period of at most 4 digits
+pub period-short : (q : ℕ) → q ≤ 1000 → length (periodLine q) ≤ 12
+period-short q h = omega (arith, period-length q, decimal-length 3 q (omega arith))
+
 -- ---- the lines of rows
 
 -- operations below 100, and dates and start indices below 1000: at most 24 bytes
