@@ -17,10 +17,10 @@ use rows::Row;
 use table::Table;
 
 // A refusal in numbers.
-pub struct Figures {
-    pub number: u64,
-    pub a: usize,
-    pub b: usize,
+struct Figures {
+    number: u64,
+    a: usize,
+    b: usize,
 }
 
 // A number's digits, the highest first; the place behind them.
@@ -70,7 +70,16 @@ fn put_period_line(out: &mut [u8], at: usize, q: u32) -> usize
 }
 
 // A line of three words, each with a number behind it.
-fn put_line(out: &mut [u8], at: usize, u: &[u8], x: u64, v: &[u8], y: u64, w: &[u8], z: u64) -> usize
+fn put_line(
+    out: &mut [u8],
+    at: usize,
+    u: &[u8],
+    x: u64,
+    v: &[u8],
+    y: u64,
+    w: &[u8],
+    z: u64,
+) -> usize
     requires { ⌜ at + length (lineOf (now u) x (now v) y (now w) z) ≤ length (now out) ⌝ }
     ensures { λ r. ⌜ Puts (now (out .entry)) (now (out .exit)) at r (lineOf (now (u .entry)) x (now (v .entry)) y (now (w .entry)) z) ⌝ }
 {
@@ -120,15 +129,51 @@ fn figures_of(r: Refusal) -> Figures
     ensures { λ f. ⌜ refusalOf {A = Reply} r ≡ refused (f .number) (f .a) (f .b) ⌝ }
 {
     match r {
-        Refusal::Short(at) => Figures { number: 1, a: at, b: 0 },
-        Refusal::Order(at) => Figures { number: 2, a: at, b: 0 },
-        Refusal::Size(at) => Figures { number: 3, a: at, b: 0 },
-        Refusal::Range(at) => Figures { number: 4, a: at, b: 0 },
-        Refusal::Many(at) => Figures { number: 5, a: at, b: 0 },
-        Refusal::Clash(i, j) => Figures { number: 6, a: i, b: j },
-        Refusal::Race(i, j) => Figures { number: 7, a: i, b: j },
-        Refusal::Room(n) => Figures { number: 8, a: n, b: 0 },
-        Refusal::Ask(place) => Figures { number: 9, a: place, b: 0 },
+        Refusal::Short(at) => Figures {
+            number: 1,
+            a: at,
+            b: 0,
+        },
+        Refusal::Order(at) => Figures {
+            number: 2,
+            a: at,
+            b: 0,
+        },
+        Refusal::Size(at) => Figures {
+            number: 3,
+            a: at,
+            b: 0,
+        },
+        Refusal::Range(at) => Figures {
+            number: 4,
+            a: at,
+            b: 0,
+        },
+        Refusal::Many(at) => Figures {
+            number: 5,
+            a: at,
+            b: 0,
+        },
+        Refusal::Clash(i, j) => Figures {
+            number: 6,
+            a: i,
+            b: j,
+        },
+        Refusal::Race(i, j) => Figures {
+            number: 7,
+            a: i,
+            b: j,
+        },
+        Refusal::Room(n) => Figures {
+            number: 8,
+            a: n,
+            b: 0,
+        },
+        Refusal::Ask(place) => Figures {
+            number: 9,
+            a: place,
+            b: 0,
+        },
     }
 }
 

@@ -26,12 +26,12 @@ put-refused-line-requires c κs =
     omega (arith, refused-short (f .number) (f .a) (f .b) n a b)
 
 array-share-prefix-text : tie.Need-array-share-prefix-text
-array-share-prefix-text c = 
+array-share-prefix-text c =
     let line = c .before .before in
     own-room _ _ (put-refused-line-requires (line .before) (line .put-refused-line .lifetimes)) (line .put-refused-line .ensures)
 
 slice-aggregate-put-text : tie.Need-slice-aggregate-put-text
-slice-aggregate-put-text c = 
+slice-aggregate-put-text c =
     let line = c .before .before .before in
     own-length _ _ (put-refused-line-requires (line .before) (line .put-refused-line .lifetimes)) (line .put-refused-line .ensures)
 
