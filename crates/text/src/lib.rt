@@ -10,7 +10,7 @@ ghost use Rattle.rules.specs.Answers.{put};
 ghost use Rattle.fields.specs.Verdicts.{refusalOf, answered, left};
 ghost use Rattle.table.specs.Tables.{tableOf, Good};
 ghost use Rattle.rows.specs.Rows.{rowOf};
-ghost use Rattle.text.specs.Texts.{Puts, lineOf};
+ghost use Rattle.text.specs.Texts.{Puts, lineOf, figuresOf};
 use fields::Answer;
 use fields::Refusal;
 use rows::Row;
@@ -124,56 +124,26 @@ fn put_row_lines(out: &mut [u8], at: usize, t: Table, q: u32) -> usize
     end
 }
 
+fn numbered(number: u64, a: usize, b: usize) -> Figures
+    ensures { λ f. ⌜ f ≡ figuresOf number a b ⌝ }
+{
+    Figures { number, a, b }
+}
+
 // A refusal's number, a and b.
-fn figures_of(r: Refusal) -> Figures
+fn refusal_figures(r: Refusal) -> Figures
     ensures { λ f. ⌜ refusalOf {A = Reply} r ≡ refused (f .number) (f .a) (f .b) ⌝ }
 {
     match r {
-        Refusal::Short(at) => Figures {
-            number: 1,
-            a: at,
-            b: 0,
-        },
-        Refusal::Order(at) => Figures {
-            number: 2,
-            a: at,
-            b: 0,
-        },
-        Refusal::Size(at) => Figures {
-            number: 3,
-            a: at,
-            b: 0,
-        },
-        Refusal::Range(at) => Figures {
-            number: 4,
-            a: at,
-            b: 0,
-        },
-        Refusal::Many(at) => Figures {
-            number: 5,
-            a: at,
-            b: 0,
-        },
-        Refusal::Clash(i, j) => Figures {
-            number: 6,
-            a: i,
-            b: j,
-        },
-        Refusal::Race(i, j) => Figures {
-            number: 7,
-            a: i,
-            b: j,
-        },
-        Refusal::Room(n) => Figures {
-            number: 8,
-            a: n,
-            b: 0,
-        },
-        Refusal::Ask(place) => Figures {
-            number: 9,
-            a: place,
-            b: 0,
-        },
+        Refusal::Short(at) => numbered(1, at, 0),
+        Refusal::Order(at) => numbered(2, at, 0),
+        Refusal::Size(at) => numbered(3, at, 0),
+        Refusal::Range(at) => numbered(4, at, 0),
+        Refusal::Many(at) => numbered(5, at, 0),
+        Refusal::Clash(i, j) => numbered(6, i, j),
+        Refusal::Race(i, j) => numbered(7, i, j),
+        Refusal::Room(n) => numbered(8, n, 0),
+        Refusal::Ask(place) => numbered(9, place, 0),
     }
 }
 
@@ -194,8 +164,8 @@ pub fn put_reply(out: &mut [u8], t: Table, q: u32) -> Answer
     requires { ⌜ Good t × (1 ≤ q) × (q ≤ t .len) ⌝ }
     ensures { λ r. ⌜ left (answered r) (now (out .exit)) ≡ put (replyText (replyOf (tableOf t) q)) (now (out .entry)) ⌝ }
 {
-    // 12 bytes for the period, and 24 for each of 32 rows, are fewer.
-    let mut text = [0u8; 800];
+    // 12 bytes for the period, and 24 for each of 32 rows.
+    let mut text = [0u8; 780];
     let end = put_period_line(&mut text, 0, q);
     let n = put_row_lines(&mut text, end, t, q);
     put_text(out, &text[..n])
@@ -205,8 +175,8 @@ pub fn put_reply(out: &mut [u8], t: Table, q: u32) -> Answer
 pub fn put_refusal(out: &mut [u8], r: Refusal) -> Answer
     ensures { λ x. ⌜ left (answered x) (now (out .exit)) ≡ put (textOf (refusalOf r)) (now (out .entry)) ⌝ }
 {
-    // 11 bytes and three numbers of 20 digits at most are fewer.
-    let mut text = [0u8; 80];
-    let n = put_refused_line(&mut text, 0, figures_of(r));
+    // 11 bytes, and 20 for each of three numbers.
+    let mut text = [0u8; 71];
+    let n = put_refused_line(&mut text, 0, refusal_figures(r));
     put_text(out, &text[..n])
 }

@@ -1,12 +1,11 @@
 -- The proof of the cycle of calls {put_decimal}. The measure is the number.
 -- Assumes nothing.
+use Prim.Native.Nat.{ℕ, _<_, _≤_}
 use mathlib.Core.Path.{_≡_, _∙_}
 use native.Mathlib.Omega.{arith}
 use lib.ListN.{length, length-set}
 use Rattle.theory.proofs.Text.{decimal-some, decimal-grows}
 use Rattle.text.specs.TextLaws.{digit-only, digit-last}
-use borrow.Author.Needs.{needs}
-use Prim.Native.Nat.{ℕ, _<_, _≤_}
 use borrow.Fn.Kinds.{In}
 use borrow.Fn.PlainCycle.{Measures, is, falls, and}
 use Rattle.text.proofs.put_decimal.Reads as put-decimal

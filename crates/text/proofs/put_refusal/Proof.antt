@@ -14,12 +14,12 @@ use Rattle.text.proofs.put_refusal.Tie as tie
 slice-aggregate-put-refused-line : tie.Need-slice-aggregate-put-refused-line
 slice-aggregate-put-refused-line c = search needs
 
-figures-of-requires : tie.Need-figures-of-requires
-figures-of-requires c κs = search needs
+refusal-figures-requires : tie.Need-refusal-figures-requires
+refusal-figures-requires c κs = search needs
 
 put-refused-line-requires : tie.Need-put-refused-line-requires
 put-refused-line-requires c κs =
-    let f = c .figures-of .result in
+    let f = c .refusal-figures .result in
     let n : f .number < 2 ^ 64 = search needs in
     let a : f .a < 2 ^ 64 = search needs in
     let b : f .b < 2 ^ 64 = search needs in
@@ -47,14 +47,15 @@ returns c =
     let line = all .before .before .before .before in
     let told = line .before in
     let s = told .before .before .before in
-    own-put _ _ (put-refused-line-requires told (line .put-refused-line .lifetimes)) (line .put-refused-line .ensures) (s .args .out .now) (all .put-text .ensures) ∙ ap (λ (text : List ℕ). put text (s .args .out .now)) (sym (refusal-text _ (told .figures-of .ensures)))
+    own-put _ _ (put-refused-line-requires told (line .put-refused-line .lifetimes)) (line .put-refused-line .ensures) (s .args .out .now) (all .put-text .ensures)
+    ∙ ap (λ (text : List ℕ). put text (s .args .out .now)) (sym (refusal-text _ (told .refusal-figures .ensures)))
 
 pub put-refusal-spec : {M : Type 1} → statement M
 put-refusal-spec =
     tie.close
     (tie.spec
     slice-aggregate-put-refused-line
-    figures-of-requires
+    refusal-figures-requires
     put-refused-line-requires
     array-share-prefix-text
     slice-aggregate-put-text

@@ -14,8 +14,8 @@ use borrow.Author.Needs.{needs}
 use Rattle.text.proofs.put_reply.Statement.{statement}
 use Rattle.text.proofs.put_reply.Tie as tie
 
--- the text is shorter than the buffer
-room : (T : Table) (q : ℕ) → Accepted T → q ≤ T .len → 0 + length (replyText (replyOf T q)) ≤ 800
+-- the text is no longer than the buffer
+room : (T : Table) (q : ℕ) → Accepted T → q ≤ T .len → 0 + length (replyText (replyOf T q)) ≤ 780
 room T q ok h = omega (arith, reply-room T q ok h)
 
 slice-aggregate-put-period-line : tie.Need-slice-aggregate-put-period-line
