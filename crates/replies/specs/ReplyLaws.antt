@@ -2,10 +2,11 @@
 -- Assumes nothing.
 use Prim.Native.Nat.{ℕ, _+_, _*_, _<_, _≤_}
 use mathlib.Core.Path.{_≡_, refl, sym, ap, _∙_}
-use mathlib.Core.List.{List, _∷_, _++_}
+use mathlib.Core.List.{List, [], _∷_, _++_}
 use native.Mathlib.Omega.{arith}
+use native.Mathlib.Numerals.{add-one}
 use lib.ListN.{length, getD, take, drop, length-map, List·getD-map}
-use lib.Seq.{take-all}
+use lib.Seq.{take-all, take-suc}
 use Rattle.rules.specs.Table.{Op, Table, nops, noOp}
 use Rattle.rules.specs.Rows.{Row, ticks, foldAt, replyOf}
 use Rattle.rules.specs.Bytes.{be16, joined, rowBytes, replyBytes}
@@ -19,13 +20,18 @@ module _ (T : Table) (q : ℕ) where
   fold-op : Op → Row
   fold-op o = foldAt (ticks q) (ticks (o .start))
 
-  rows-length : length (replyOf T q .rows) ≡ nops T
+  pub rows-length : length (replyOf T q .rows) ≡ nops T
   unfolding replyOf
   rows-length = length-map (T .ops) _
 
   rows-at : (i : ℕ) → getD (replyOf T q .rows) i (fold-op noOp) ≡ rowIn T q i
   unfolding replyOf fold-op
   rows-at i = List·getD-map _ (T .ops) i noOp
+
+  -- one row more
+  pub rows-next : (i : ℕ) → i < nops T → take (i + 1) (replyOf T q .rows) ≡ take i (replyOf T q .rows) ++ (rowIn T q i ∷ [])
+  rows-next i h =
+      rw (add-one, take-suc (replyOf T q .rows) i (fold-op noOp) (omega (arith, rows-length)), rows-at i)
 
   pub rows-none : (out : List ℕ) → out ≡ stored out 5 (joined rowBytes (take 0 (replyOf T q .rows)))
   unfolding stored joined

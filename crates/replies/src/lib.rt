@@ -26,7 +26,7 @@ fn put_row(out: &mut [u8], at: usize, r: Row)
 }
 
 // The row of an operation of the table.
-fn row_of(t: Table, i: usize, q: u32) -> Row
+pub fn row_of(t: Table, i: usize, q: u32) -> Row
     requires { ⌜ Good t × (i < t .count) × (1 ≤ q) × (q ≤ t .len) ⌝ }
     ensures { λ r. ⌜ rowOf r ≡ rowIn (tableOf t) q i ⌝ }
 {
