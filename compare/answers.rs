@@ -56,10 +56,15 @@ pub fn reply_bytes(reply: &Reply) -> Vec<u8> {
     out
 }
 
+/// The reply of a table.
+pub fn reply_to(bytes: &[u8]) -> Result<Vec<u8>, Refusal> {
+    let table = judge(bytes)?;
+    Ok(reply_bytes(&fold(&table)))
+}
+
 /// The reply of a table, then ROOM; the number of bytes written.
 pub fn plan(bytes: &[u8], out: &mut [u8]) -> Result<usize, Refusal> {
-    let table = judge(bytes)?;
-    put(&reply_bytes(&fold(&table)), out)
+    put(&reply_to(bytes)?, out)
 }
 
 /// "In a reply read for unfolding the period is 1 to 1000".
@@ -94,14 +99,23 @@ fn read_starts(bytes: &[u8]) -> Result<Vec<u64>, Refusal> {
     }
 }
 
-/// "Unfolding writes the starts in order, 2 bytes each."
-pub fn unfold(reply: &[u8], out: &mut [u8]) -> Result<usize, Refusal> {
-    let starts = read_starts(reply)?;
+/// "the starts in order, 2 bytes each"
+pub fn start_bytes(starts: impl Iterator<Item = u64>) -> Vec<u8> {
     let mut bytes = Vec::new();
     for start in starts {
         push_number(&mut bytes, start, 2);
     }
-    put(&bytes, out)
+    bytes
+}
+
+/// The starts that a reply's rows came from.
+pub fn starts_of(reply: &[u8]) -> Result<Vec<u8>, Refusal> {
+    Ok(start_bytes(read_starts(reply)?.into_iter()))
+}
+
+/// "Unfolding writes the starts", then ROOM; the number of bytes written.
+pub fn unfold(reply: &[u8], out: &mut [u8]) -> Result<usize, Refusal> {
+    put(&starts_of(reply)?, out)
 }
 
 /// "for the margin the order is i, j, n, q, places 0 to 3"; "n is 1 to 1000 and q
