@@ -4,14 +4,13 @@
 //! To add a function: declare it in `library`, give it a line in FUNCTIONS of
 //! `findings`, and compare it in the draw that has its inputs (or in one more draw).
 
-use crate::answers::{self, is_right, reply_to, start_bytes, starts_of};
+use crate::answers::{self, is_right, reply_bytes, start_bytes, starts_of};
 use crate::examples::K1;
 use crate::findings::{lent, memory_for, planned, Findings, Seen};
 use crate::generate::{self, Seed};
 use crate::hex::{bytes_in, hex};
 use crate::judge::{bytes_of, judge, judge_numbers, put, write_table, Numbers, Refusal, Table};
 use crate::library::{self, Said};
-use crate::runs::period;
 
 /// What is drawn, in turn.
 const DRAWS: [fn(&mut Seed, &mut Findings); 3] = [draw_bytes, draw_numbers, draw_reply];
@@ -91,11 +90,6 @@ fn compare_judge(bytes: &[u8], findings: &mut Findings) {
     compare_question("judge", bytes, library::judge, answer, findings);
 }
 
-fn compare_period(bytes: &[u8], findings: &mut Findings) {
-    let answer = judge(bytes).map(|table| period(&table) as usize);
-    compare_question("period", bytes, library::period, answer, findings);
-}
-
 fn compare_is_right(bytes: &[u8], q: u64, findings: &mut Findings) {
     let answer = is_right(bytes, q).map(|yes| yes as usize);
     let call = |s: &mut [u8]| library::is_right(s, q);
@@ -134,23 +128,24 @@ fn compare_margin(
     findings.note("margin", input, &library, &planner);
 }
 
-/// Plan and fold, into so many buffers each.
+/// Period, plan and fold; what is written goes into so many buffers.
 fn compare_folds(bytes: &[u8], most: usize, seed: &mut Seed, findings: &mut Findings) {
+    let folded = answers::fold(bytes);
+    let answer = folded.as_ref().map(|reply| reply.period as usize);
+    let answer = answer.map_err(|refusal| *refusal);
+    compare_question("period", bytes, library::period, answer, findings);
+    let fold = Writing {
+        name: folded.as_ref().map_or("fold, refused", |_| "fold"),
+        call: library::fold,
+        answer: Ok(answers::text_of(&folded).into_bytes()),
+    };
+    fold.compare(bytes, most, seed, findings);
     let plan = Writing {
         name: "plan",
         call: library::plan,
-        answer: reply_to(bytes),
+        answer: folded.map(|reply| reply_bytes(&reply)),
     };
     plan.compare(bytes, most, seed, findings);
-    // the program takes no more, and the library any
-    let bytes = &bytes[..bytes.len().min(answers::MOST_INPUT)];
-    let accepted = plan.answer.is_ok();
-    let fold = Writing {
-        name: if accepted { "fold" } else { "fold, refused" },
-        call: library::fold,
-        answer: Ok(answers::text(bytes).into_bytes()),
-    };
-    fold.compare(bytes, most, seed, findings);
 }
 
 fn draw_bytes(seed: &mut Seed, findings: &mut Findings) {
@@ -158,7 +153,6 @@ fn draw_bytes(seed: &mut Seed, findings: &mut Findings) {
     compare_judge(&bytes, findings);
     // whole tables have draws of their own; here it is the damaged ones
     if judge(&bytes).is_err() {
-        compare_period(&bytes, findings);
         compare_is_right(&bytes, generate::period_question(seed, 1000), findings);
         let asked = generate::margin_question(seed, 32, 1000);
         compare_margin(&bytes, asked, seed, findings);
@@ -166,11 +160,10 @@ fn draw_bytes(seed: &mut Seed, findings: &mut Findings) {
     }
 }
 
-/// An accepted table: its period, whether some period is right, some margin, what is
+/// An accepted table: whether some period is right, some margin, its period and what is
 /// written into so many buffers, and its starts back from the reply.
 fn draw_table(table: &Table, most: usize, seed: &mut Seed, findings: &mut Findings) {
     let bytes = bytes_of(table);
-    compare_period(&bytes, findings);
     compare_is_right(&bytes, generate::period_question(seed, table.len), findings);
     let asked = generate::margin_question(seed, table.ops.len() as u64, table.len);
     compare_margin(&bytes, asked, seed, findings);
@@ -212,7 +205,8 @@ fn fixed_bytes(seed: &mut Seed, findings: &mut Findings) {
         compare_judge(&bytes, findings);
         compare_folds(&bytes, 1, seed, findings);
     }
-    for reply in all_damages(&reply_to(&k1).expect("K1 is accepted")) {
+    let reply = answers::fold(&k1).expect("K1 is accepted");
+    for reply in all_damages(&reply_bytes(&reply)) {
         compare_unfold(&reply, seed, findings);
     }
 }
