@@ -3,7 +3,7 @@
 
 use crate::answers::{self, plan};
 use crate::hex::bytes_in;
-use crate::judge::{judge, Table};
+use crate::judge::{bytes_of, judge, Table};
 use crate::runs::{period, right_by_runs};
 use std::io::{Read, Write};
 use std::path::Path;
@@ -27,8 +27,8 @@ fn input() -> Vec<u8> {
 
 /// Commented hexadecimal text on standard input, its bytes on standard output.
 pub fn bytes_command() -> bool {
-    let text = String::from_utf8(input()).unwrap_or_default();
-    match bytes_in(&text) {
+    let text = String::from_utf8(input()).ok();
+    match text.and_then(|text| bytes_in(&text)) {
         Some(bytes) => std::io::stdout().write_all(&bytes).is_ok(),
         None => {
             eprintln!("standard input is not hexadecimal text");
@@ -57,14 +57,14 @@ fn is_found_by_runs(table: &Table) -> bool {
     (1..=table.len).find(|q| right_by_runs(table, *q)) == Some(period(table))
 }
 
-/// The bytes fold as the comments say; a tiny table's period is also found by laying out its runs.
+/// The bytes fold as the comments say. A table is written as it is read, and the period of a
+/// tiny one is also found by laying out its runs.
 fn folds_as_promised(text: &str) -> bool {
     bytes_in(text).map_or(false, |bytes| {
-        let by_runs = match judge(&bytes) {
-            Ok(table) if table.len <= TINY => is_found_by_runs(&table),
-            _ => true,
-        };
-        by_runs && answers::text(&bytes) == promised(text)
+        let table_is_good = judge(&bytes).map_or(true, |table| {
+            bytes_of(&table) == bytes && (table.len > TINY || is_found_by_runs(&table))
+        });
+        table_is_good && answers::text(&bytes) == promised(text)
     })
 }
 

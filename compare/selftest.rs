@@ -65,6 +65,15 @@ fn from_hex(digits: &str) -> Vec<u8> {
     bytes_in(digits).expect("hexadecimal text")
 }
 
+/// What is text of bytes, and what is not.
+fn hexadecimal(tally: &mut Tally) {
+    let good = bytes_in("01 fF# 02\n\t0304 # 5");
+    tally.check("text", good == Some(vec![0x01, 0xff, 0x03, 0x04]));
+    for bad in ["0", "012", "0x01", "01,02", "0 1", "01 g0"] {
+        tally.check("no text", bytes_in(bad) == None);
+    }
+}
+
 // ---- questions about the bench tables -----------------------------------
 
 fn k1() -> Vec<u8> {
@@ -462,6 +471,7 @@ fn selftest() -> Tally {
         failed: 0,
     };
     let fixed = [
+        hexadecimal,
         bench_k1,
         bench_k4,
         margins,
