@@ -1,190 +1,21 @@
 //! The library's answers beside those of the planner in this folder: the number,
 //! a, b, and every lent byte.
 //!
-//! To add a function: declare it in `library`, give it a line in FUNCTIONS, and
-//! compare it in the draw that has its inputs (or in one more draw).
+//! To add a function: declare it in `library`, give it a line in FUNCTIONS of
+//! `findings`, and compare it in the draw that has its inputs (or in one more draw).
 
+use crate::answers::{self, is_right, reply_bytes, start_bytes, starts_of};
+use crate::examples::K1;
+use crate::findings::{lent, memory_for, planned, Findings, Seen};
 use crate::generate::{self, Seed};
-use crate::answers::is_right;
-use crate::judge::{bytes_of, judge, judge_numbers, write_table, Numbers, Refusal, Table};
+use crate::hex::{bytes_in, hex};
+use crate::judge::{bytes_of, judge, judge_numbers, put, write_table, Numbers, Refusal, Table};
 use crate::library::{self, Said};
-use crate::runs::period;
-use crate::selftest::{from_hex, K1};
-
-/// The functions that are compared, each with the numbers that have to be met: 0
-/// for success, and each refusal that the function can give.
-const FUNCTIONS: [(&str, &[usize]); 5] = [
-    ("judge", &[0, 1, 2, 3, 4, 5, 6, 7]),
-    ("judge_numbers", &[0, 1, 2, 3, 4, 5, 6, 7]),
-    ("write", &[0, 1, 2, 3, 4, 5, 6, 7, 8]),
-    ("period", &[0, 1, 2, 3, 4, 5, 6, 7]),
-    ("is_right", &[0, 1, 2, 3, 4, 5, 6, 7, 9]),
-];
-
-/// Success and the refusals, by their numbers.
-const NAMES: [&str; 10] = [
-    "good", "SHORT", "ORDER", "SIZE", "RANGE", "MANY", "CLASH", "RACE", "ROOM", "ASK",
-];
 
 /// What is drawn, in turn.
-const DRAWS: [fn(&mut Seed, &mut Findings); 2] = [draw_bytes, draw_numbers];
+const DRAWS: [fn(&mut Seed, &mut Findings); 3] = [draw_bytes, draw_numbers, draw_reply];
 
-/// How many differences are printed; the others are only counted.
-const MOST_PRINTED: u64 = 5;
-
-/// Bytes in front of a lent buffer and behind it, which have to stay.
-const GUARD: usize = 16;
-
-// ---- what is seen of a call ---------------------------------------------
-
-/// What is told, whether the input is as it was, and the lent memory with the
-/// bytes around it.
-#[derive(PartialEq, Eq)]
-struct Seen {
-    said: Said,
-    kept: bool,
-    memory: Vec<u8>,
-}
-
-/// An answer as the library tells it: on success the number is 0, a the number of
-/// bytes written (0 where nothing is) and b 0.
-fn said_of(answer: Result<usize, Refusal>) -> Said {
-    match answer {
-        Ok(count) => Said {
-            number: 0,
-            a: count as u64,
-            b: 0,
-        },
-        Err(refusal) => Said {
-            number: refusal.number,
-            a: refusal.a,
-            b: refusal.b,
-        },
-    }
-}
-
-/// What the planner's answer looks like.
-fn planned(answer: Result<usize, Refusal>, memory: Vec<u8>) -> Seen {
-    Seen {
-        said: said_of(answer),
-        kept: true,
-        memory,
-    }
-}
-
-/// Memory with a pattern for a buffer of this length.
-fn memory_for(seed: &mut Seed, length: usize) -> Vec<u8> {
-    let first = seed.draw() as u8;
-    (0..GUARD + length + GUARD)
-        .map(|place| first.wrapping_add((place * 7 + place / 256) as u8))
-        .collect()
-}
-
-/// The part of the memory that is lent.
-fn lent(memory: &mut [u8]) -> &mut [u8] {
-    let end = memory.len() - GUARD;
-    &mut memory[GUARD..end]
-}
-
-fn hex(bytes: &[u8]) -> String {
-    let all: Vec<String> = bytes.iter().map(|byte| format!("{:02x}", byte)).collect();
-    all.join(" ")
-}
-
-fn hex_words(words: &[u64]) -> String {
-    let all: Vec<String> = words.iter().map(|word| format!("{:x}", word)).collect();
-    all.join(" ")
-}
-
-fn hex_numbers(n: &Numbers) -> String {
-    format!(
-        "p {:x} boards {:x} cells {:x} modes {:x} first {:x} follow [{}] ops [{}]",
-        n.p,
-        n.boards,
-        n.cells,
-        n.modes,
-        n.first,
-        hex_words(&n.follow),
-        hex_words(&n.ops)
-    )
-}
-
-// ---- what was found -----------------------------------------------------
-
-/// How often each function gave each number, and how many answers differ.
-#[derive(Default)]
-struct Findings {
-    met: [[u64; NAMES.len()]; FUNCTIONS.len()],
-    differences: u64,
-}
-
-impl Findings {
-    /// One input of a function, with both answers to it.
-    fn note(&mut self, name: &str, input: impl Fn() -> String, library: &Seen, planner: &Seen) {
-        if let Some(place) = FUNCTIONS.iter().position(|function| function.0 == name) {
-            self.met[place][planner.said.number as usize] += 1;
-        }
-        if library == planner {
-            return;
-        }
-        self.differences += 1;
-        if self.differences <= MOST_PRINTED {
-            println!("{} differs on {}", name, input());
-            print_seen("library", library);
-            print_seen("planner", planner);
-        }
-    }
-
-    /// The table of what was met.
-    fn print(&self) {
-        print!("{:<14}", "");
-        NAMES.iter().for_each(|name| print!("{:>8}", name));
-        println!();
-        for (place, (name, _)) in FUNCTIONS.iter().enumerate() {
-            print!("{:<14}", name);
-            self.met[place]
-                .iter()
-                .for_each(|count| print!("{:>8}", count));
-            println!();
-        }
-    }
-
-    /// The numbers that a function has to be seen to give, and was not.
-    fn missed(&self) -> Vec<String> {
-        let mut all = Vec::new();
-        for (place, (name, numbers)) in FUNCTIONS.iter().enumerate() {
-            for number in numbers.iter() {
-                if self.met[place][*number] == 0 {
-                    all.push(format!("{} was never {}", name, NAMES[*number]));
-                }
-            }
-        }
-        all
-    }
-}
-
-fn print_seen(who: &str, seen: &Seen) {
-    let Said { number, a, b } = seen.said;
-    let input = if seen.kept { "" } else { ", input changed" };
-    println!("  {} {} {} {}{}", who, number, a, b, input);
-    if !seen.memory.is_empty() {
-        println!("    memory {}", hex(&seen.memory));
-    }
-}
-
-// ---- a table's bytes ----------------------------------------------------
-
-fn compare_judge(bytes: &[u8], findings: &mut Findings) {
-    let mut copy = bytes.to_vec();
-    let said = library::judge(&mut copy);
-    let library = Seen {
-        said,
-        kept: copy == bytes,
-        memory: Vec::new(),
-    };
-    let planner = planned(judge(bytes).map(|_| 0), Vec::new());
-    findings.note("judge", || hex(bytes), &library, &planner);
-}
+// ---- calls --------------------------------------------------------------
 
 /// A call that lends nothing but the input, beside the planner's answer to it.
 fn compare_question(
@@ -205,14 +36,116 @@ fn compare_question(
     findings.note(name, || hex(bytes), &library, &planner);
 }
 
-fn compare_period(bytes: &[u8], findings: &mut Findings) {
-    let answer = judge(bytes).map(|table| period(&table) as usize);
-    compare_question("period", bytes, library::period, answer, findings);
+/// A function that reads bytes and writes bytes, with what it has to write.
+struct Writing {
+    name: &'static str,
+    call: fn(&mut [u8], &mut [u8]) -> Said,
+    answer: Result<Vec<u8>, Refusal>,
+}
+
+impl Writing {
+    /// Into one lent buffer.
+    fn compare_into(&self, bytes: &[u8], before: &[u8], findings: &mut Findings) {
+        let (mut copy, mut memory) = (bytes.to_vec(), before.to_vec());
+        let said = (self.call)(&mut copy, lent(&mut memory));
+        let library = Seen {
+            said,
+            kept: copy == bytes,
+            memory,
+        };
+        let mut memory = before.to_vec();
+        let answer = self.answer.clone();
+        let answer = answer.and_then(|answer| put(&answer, lent(&mut memory)));
+        let planner = planned(answer, memory);
+        let input = || format!("{} memory {}", hex(bytes), hex(before));
+        findings.note(self.name, input, &library, &planner);
+    }
+
+    /// Into so many of the buffers of `rooms`.
+    fn compare(&self, bytes: &[u8], most: usize, seed: &mut Seed, findings: &mut Findings) {
+        // a refusal needs no room: any will do
+        let needed = self.answer.as_ref().map_or(40, Vec::len);
+        let lengths = rooms(seed, needed);
+        let first = seed.below(ROOMS as u64) as usize;
+        for place in first..first + most {
+            let before = memory_for(seed, lengths[place % ROOMS]);
+            self.compare_into(bytes, &before, findings);
+        }
+    }
+}
+
+/// How many buffers there are for one answer.
+const ROOMS: usize = 5;
+
+/// One byte too short, just enough, longer, empty, and drawn.
+fn rooms(seed: &mut Seed, needed: usize) -> [usize; ROOMS] {
+    let longer = needed + seed.between(1, 40) as usize;
+    [needed - 1, needed, longer, 0, generate::room(seed, needed)]
+}
+
+// ---- a table's bytes ----------------------------------------------------
+
+fn compare_judge(bytes: &[u8], findings: &mut Findings) {
+    let answer = judge(bytes).map(|_| 0);
+    compare_question("judge", bytes, library::judge, answer, findings);
 }
 
 fn compare_is_right(bytes: &[u8], q: u64, findings: &mut Findings) {
     let answer = is_right(bytes, q).map(|yes| yes as usize);
-    compare_question("is_right", bytes, |s| library::is_right(s, q), answer, findings);
+    let call = |s: &mut [u8]| library::is_right(s, q);
+    compare_question("is_right", bytes, call, answer, findings);
+}
+
+/// The bytes of numbers side by side.
+fn bytes_of_places(places: [i32; 3]) -> Vec<u8> {
+    places
+        .iter()
+        .flat_map(|place| place.to_le_bytes())
+        .collect()
+}
+
+/// The margin's place and its neighbours are the memory that is looked at.
+fn compare_margin(
+    bytes: &[u8],
+    asked: (u64, u64, u64, u64),
+    seed: &mut Seed,
+    findings: &mut Findings,
+) {
+    let before = [seed.draw() as i32, seed.draw() as i32, seed.draw() as i32];
+    let (mut copy, mut places) = (bytes.to_vec(), before);
+    let said = library::margin(&mut copy, asked, &mut places);
+    let library = Seen {
+        said,
+        kept: copy == bytes,
+        memory: bytes_of_places(places),
+    };
+    let (i, j, n, q) = asked;
+    let answer = answers::margin(bytes, i, j, n, q);
+    let mut places = before;
+    places[1] = answer.map_or(before[1], |margin| margin as i32);
+    let planner = planned(answer.map(|_| 0), bytes_of_places(places));
+    let input = || format!("{:x?} of {}", asked, hex(bytes));
+    findings.note("margin", input, &library, &planner);
+}
+
+/// Period, plan and fold; what is written goes into so many buffers.
+fn compare_folds(bytes: &[u8], most: usize, seed: &mut Seed, findings: &mut Findings) {
+    let folded = answers::fold(bytes);
+    let answer = folded.as_ref().map(|reply| reply.period as usize);
+    let answer = answer.map_err(|refusal| *refusal);
+    compare_question("period", bytes, library::period, answer, findings);
+    let fold = Writing {
+        name: folded.as_ref().map_or("fold, refused", |_| "fold"),
+        call: library::fold,
+        answer: Ok(answers::text_of(&folded).into_bytes()),
+    };
+    fold.compare(bytes, most, seed, findings);
+    let plan = Writing {
+        name: "plan",
+        call: library::plan,
+        answer: folded.map(|reply| reply_bytes(&reply)),
+    };
+    plan.compare(bytes, most, seed, findings);
 }
 
 fn draw_bytes(seed: &mut Seed, findings: &mut Findings) {
@@ -220,34 +153,114 @@ fn draw_bytes(seed: &mut Seed, findings: &mut Findings) {
     compare_judge(&bytes, findings);
     // whole tables have draws of their own; here it is the damaged ones
     if judge(&bytes).is_err() {
-        compare_period(&bytes, findings);
         compare_is_right(&bytes, generate::period_question(seed, 1000), findings);
+        let asked = generate::margin_question(seed, 32, 1000);
+        compare_margin(&bytes, asked, seed, findings);
+        compare_folds(&bytes, ROOMS, seed, findings);
     }
 }
 
-/// An accepted table: its period, and whether some period is right.
-fn draw_period(table: &Table, seed: &mut Seed, findings: &mut Findings) {
+/// An accepted table: whether some period is right, some margin, its period and what is
+/// written into so many buffers, and its starts back from the reply.
+fn draw_table(table: &Table, most: usize, seed: &mut Seed, findings: &mut Findings) {
     let bytes = bytes_of(table);
-    compare_period(&bytes, findings);
     compare_is_right(&bytes, generate::period_question(seed, table.len), findings);
+    let asked = generate::margin_question(seed, table.ops.len() as u64, table.len);
+    compare_margin(&bytes, asked, seed, findings);
+    compare_folds(&bytes, most, seed, findings);
+    compare_there_and_back(table, seed, findings);
 }
 
-/// K1 with each byte changed to each other value, and K1 cut at every length.
-fn fixed_bytes(findings: &mut Findings) {
-    let k1 = from_hex(K1);
-    for place in 0..k1.len() {
+/// What the library folds it unfolds: the starts that it gives for its own reply are
+/// those of the table.
+fn compare_there_and_back(table: &Table, seed: &mut Seed, findings: &mut Findings) {
+    let mut reply = [0; 229];
+    let said = library::plan(&mut bytes_of(table), &mut reply);
+    let count = reply.len().min(said.a as usize);
+    let unfold = Writing {
+        name: "unfold",
+        call: library::unfold,
+        answer: Ok(start_bytes(table.ops.iter().map(|op| op.start))),
+    };
+    unfold.compare(&reply[..count], 1, seed, findings);
+}
+
+/// The bytes with each byte changed to each other value, and cut at every length.
+fn all_damages(bytes: &[u8]) -> Vec<Vec<u8>> {
+    let mut all = generate::all_cuts(bytes);
+    for place in 0..bytes.len() {
         for byte in 0..=255 {
-            let mut bytes = k1.clone();
-            bytes[place] = byte;
-            compare_judge(&bytes, findings);
+            let mut changed = bytes.to_vec();
+            changed[place] = byte;
+            all.push(changed);
         }
     }
-    for bytes in generate::all_cuts(&k1) {
+    all
+}
+
+/// K1 and K1's reply, with every small damage.
+fn fixed_bytes(seed: &mut Seed, findings: &mut Findings) {
+    let k1 = bytes_in(K1).expect("the example is hexadecimal text");
+    for bytes in all_damages(&k1) {
         compare_judge(&bytes, findings);
+        compare_folds(&bytes, 1, seed, findings);
     }
+    let reply = answers::fold(&k1).expect("K1 is accepted");
+    for reply in all_damages(&reply_bytes(&reply)) {
+        compare_unfold(&reply, seed, findings);
+    }
+}
+
+/// The margins that are farthest from 0: an operation that lasts a whole table, one at its
+/// start, one at its end.
+fn fixed_margins(seed: &mut Seed, findings: &mut Findings) {
+    let table = generate::widest();
+    let bytes = bytes_of(&table);
+    for asked in [
+        (0, 1, 1, 1),
+        (1, 2, 1000, 1000),
+        (0, 1, 1, 1000),
+        (1, 1, 1, 1),
+    ] {
+        compare_margin(&bytes, asked, seed, findings);
+    }
+}
+
+// ---- replies ------------------------------------------------------------
+
+fn compare_unfold(reply: &[u8], seed: &mut Seed, findings: &mut Findings) {
+    let unfold = Writing {
+        name: "unfold",
+        call: library::unfold,
+        answer: starts_of(reply),
+    };
+    unfold.compare(reply, ROOMS, seed, findings);
+}
+
+fn draw_reply(seed: &mut Seed, findings: &mut Findings) {
+    let reply = generate::reply(seed);
+    compare_unfold(&reply, seed, findings);
 }
 
 // ---- a table's numbers --------------------------------------------------
+
+fn hex_words(words: &[u64]) -> String {
+    let all: Vec<String> = words.iter().map(|word| format!("{:x}", word)).collect();
+    all.join(" ")
+}
+
+fn hex_numbers(n: &Numbers) -> String {
+    format!(
+        "p {:x} boards {:x} cells {:x} modes {:x} first {:x} follow [{}] ops [{}]",
+        n.p,
+        n.boards,
+        n.cells,
+        n.modes,
+        n.first,
+        hex_words(&n.follow),
+        hex_words(&n.ops)
+    )
+}
 
 fn compare_judge_numbers(numbers: &Numbers, findings: &mut Findings) {
     let mut copy = numbers.clone();
@@ -281,14 +294,10 @@ fn layout_length(numbers: &Numbers) -> usize {
     18 + 4 * numbers.follow.len() + 21 * (numbers.ops.len() / 6)
 }
 
-/// Into a buffer that is one byte too short, one that is just enough, a longer one
-/// and a drawn one.
 fn draw_numbers(seed: &mut Seed, findings: &mut Findings) {
     let numbers = generate::numbers(seed);
     compare_judge_numbers(&numbers, findings);
-    let needed = layout_length(&numbers);
-    let longer = needed + seed.between(1, 40) as usize;
-    for length in [needed - 1, needed, longer, generate::room(seed, needed)] {
+    for length in rooms(seed, layout_length(&numbers)) {
         let before = memory_for(seed, length);
         compare_write(&numbers, &before, findings);
     }
@@ -300,21 +309,22 @@ fn draw_numbers(seed: &mut Seed, findings: &mut Findings) {
 /// every number was met.
 pub fn against(count: u64, mut seed: Seed) -> bool {
     let mut findings = Findings::default();
-    fixed_bytes(&mut findings);
+    fixed_bytes(&mut seed, &mut findings);
+    fixed_margins(&mut seed, &mut findings);
     for turn in 0..count {
         let draw = DRAWS[turn as usize % DRAWS.len()];
         draw(&mut seed, &mut findings);
     }
     for _ in 0..count / 2 {
         let table = generate::small(&mut seed);
-        draw_period(&table, &mut seed, &mut findings);
+        draw_table(&table, ROOMS, &mut seed, &mut findings);
     }
     for turn in 0..count / 100 {
         let table = match turn % 2 {
             0 => generate::large(&mut seed),
             _ => generate::largest(&mut seed),
         };
-        draw_period(&table, &mut seed, &mut findings);
+        draw_table(&table, 1, &mut seed, &mut findings);
     }
     findings.print();
     let missed = findings.missed();

@@ -6,7 +6,7 @@ use crate::judge::{Fields, Refusal, Table, ASK, RANGE};
 use crate::runs::{period, right};
 
 /// "reads at most 4096 bytes of standard input and ignores more"
-pub const MOST_INPUT: usize = 4096;
+const MOST_INPUT: usize = 4096;
 
 /// One row of a folded table.
 #[derive(Clone, Copy, Debug, PartialEq, Eq)]
@@ -32,12 +32,13 @@ fn row_of(start: u64, q: u64) -> Row {
 }
 
 /// The table folded onto its period.
-fn fold(table: &Table) -> Reply {
-    let q = period(table);
-    Reply {
+pub fn fold(bytes: &[u8]) -> Result<Reply, Refusal> {
+    let table = judge(bytes)?;
+    let q = period(&table);
+    Ok(Reply {
         period: q,
         rows: table.ops.iter().map(|op| row_of(op.start, q)).collect(),
-    }
+    })
 }
 
 /// "Reply fields: 11, length 2: period. 12, length 4, for each operation in table
@@ -58,8 +59,7 @@ pub fn reply_bytes(reply: &Reply) -> Vec<u8> {
 
 /// The reply of a table, then ROOM; the number of bytes written.
 pub fn plan(bytes: &[u8], out: &mut [u8]) -> Result<usize, Refusal> {
-    let table = judge(bytes)?;
-    put(&reply_bytes(&fold(&table)), out)
+    put(&reply_bytes(&fold(bytes)?), out)
 }
 
 /// "In a reply read for unfolding the period is 1 to 1000".
@@ -94,14 +94,23 @@ fn read_starts(bytes: &[u8]) -> Result<Vec<u64>, Refusal> {
     }
 }
 
-/// "Unfolding writes the starts in order, 2 bytes each."
-pub fn unfold(reply: &[u8], out: &mut [u8]) -> Result<usize, Refusal> {
-    let starts = read_starts(reply)?;
+/// "the starts in order, 2 bytes each"
+pub fn start_bytes(starts: impl Iterator<Item = u64>) -> Vec<u8> {
     let mut bytes = Vec::new();
     for start in starts {
         push_number(&mut bytes, start, 2);
     }
-    put(&bytes, out)
+    bytes
+}
+
+/// The starts that a reply's rows came from.
+pub fn starts_of(reply: &[u8]) -> Result<Vec<u8>, Refusal> {
+    Ok(start_bytes(read_starts(reply)?.into_iter()))
+}
+
+/// "Unfolding writes the starts", then ROOM; the number of bytes written.
+pub fn unfold(reply: &[u8], out: &mut [u8]) -> Result<usize, Refusal> {
+    put(&starts_of(reply)?, out)
 }
 
 /// "for the margin the order is i, j, n, q, places 0 to 3"; "n is 1 to 1000 and q
@@ -145,12 +154,16 @@ fn reply_text(reply: &Reply) -> String {
     text
 }
 
-/// What `fold` prints for these bytes of standard input. Every line, the last one
-/// too, ends with a line feed.
-pub fn text(bytes: &[u8]) -> String {
-    let kept = &bytes[..bytes.len().min(MOST_INPUT)];
-    match judge(kept) {
-        Ok(table) => reply_text(&fold(&table)),
-        Err(refusal) => refusal_text(&refusal),
+/// What is printed of a folded table, or of a refusal. Every line, the last one too,
+/// ends with a line feed.
+pub fn text_of(folded: &Result<Reply, Refusal>) -> String {
+    match folded {
+        Ok(reply) => reply_text(reply),
+        Err(refusal) => refusal_text(refusal),
     }
+}
+
+/// What `fold` prints for these bytes of standard input.
+pub fn text(bytes: &[u8]) -> String {
+    text_of(&fold(&bytes[..bytes.len().min(MOST_INPUT)]))
 }

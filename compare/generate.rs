@@ -83,28 +83,28 @@ fn tiny_shape(seed: &mut Seed) -> Shape {
     }
 }
 
-fn small_shape(seed: &mut Seed) -> Shape {
-    let p = seed.often_edge(1, 16);
+/// Up to so many boards, cells, modes and operations, often the fewest or the most.
+fn shape_up_to(seed: &mut Seed, p: u64, most: [u64; 4], longest: u64) -> Shape {
     Shape {
         p,
-        boards: seed.often_edge(1, 5),
-        cells: seed.often_edge(0, 4),
-        modes: seed.often_edge(1, 4),
-        ops: seed.often_edge(1, 7),
-        longest: seed.between(1, p),
+        boards: seed.often_edge(1, most[0]),
+        cells: seed.often_edge(0, most[1]),
+        modes: seed.often_edge(1, most[2]),
+        ops: seed.often_edge(1, most[3]),
+        longest,
     }
+}
+
+fn small_shape(seed: &mut Seed) -> Shape {
+    let p = seed.often_edge(1, 16);
+    let longest = seed.between(1, p);
+    shape_up_to(seed, p, [5, 4, 4, 7], longest)
 }
 
 fn large_shape(seed: &mut Seed) -> Shape {
     let p = seed.often_edge(20, 1000);
-    Shape {
-        p,
-        boards: seed.often_edge(1, 16),
-        cells: seed.often_edge(0, 32),
-        modes: seed.often_edge(1, 32),
-        ops: seed.often_edge(1, 32),
-        longest: 1 + p / seed.one_of(&[2, 8, 32, 128]),
-    }
+    let longest = 1 + p / seed.one_of(&[2, 8, 32, 128]);
+    shape_up_to(seed, p, [16, 32, 32, 32], longest)
 }
 
 /// Every count at its highest.
@@ -934,6 +934,28 @@ pub fn margin_question(seed: &mut Seed, ops: u64, p: u64) -> (u64, u64, u64, u64
 /// A question for "is q right".
 pub fn period_question(seed: &mut Seed, p: u64) -> u64 {
     asked(seed, 1, p)
+}
+
+/// A longest table for the margins that are farthest from 0: an operation that lasts all of it,
+/// one at its first tick, one at its last.
+pub fn widest() -> Table {
+    let op = |start, dur, boards| Op {
+        start,
+        dur,
+        boards,
+        reads: 0,
+        writes: 0,
+        modes: 1,
+    };
+    Table {
+        len: 1000,
+        boards: 3,
+        cells: 0,
+        modes: 1,
+        first: 1,
+        follow: vec![1],
+        ops: vec![op(0, 1000, 1), op(0, 1, 2), op(999, 1, 4)],
+    }
 }
 
 // ---- relabelled tables --------------------------------------------------

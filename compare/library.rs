@@ -2,48 +2,42 @@
 
 use crate::judge::Numbers;
 
+#[rustfmt::skip]
 mod c {
     extern "C" {
         pub fn trevozhil_judge(s: *const u8, s_len: usize, a: *mut u64, b: *mut u64) -> u32;
 
         pub fn trevozhil_judge_numbers(
-            p: u64,
-            boards: u64,
-            cells: u64,
-            modes: u64,
-            first: u64,
-            follow: *const u64,
-            follow_len: usize,
-            ops: *const u64,
-            ops_len: usize,
-            a: *mut u64,
-            b: *mut u64,
+            p: u64, boards: u64, cells: u64, modes: u64, first: u64,
+            follow: *const u64, follow_len: usize, ops: *const u64, ops_len: usize,
+            a: *mut u64, b: *mut u64,
         ) -> u32;
 
         pub fn trevozhil_write(
-            p: u64,
-            boards: u64,
-            cells: u64,
-            modes: u64,
-            first: u64,
-            follow: *const u64,
-            follow_len: usize,
-            ops: *const u64,
-            ops_len: usize,
-            out: *mut u8,
-            out_len: usize,
-            a: *mut u64,
-            b: *mut u64,
+            p: u64, boards: u64, cells: u64, modes: u64, first: u64,
+            follow: *const u64, follow_len: usize, ops: *const u64, ops_len: usize,
+            out: *mut u8, out_len: usize, a: *mut u64, b: *mut u64,
         ) -> u32;
 
         pub fn trevozhil_period(s: *const u8, s_len: usize, a: *mut u64, b: *mut u64) -> u32;
 
-        pub fn trevozhil_is_right(
-            s: *const u8,
-            s_len: usize,
-            q: u64,
-            a: *mut u64,
-            b: *mut u64,
+        pub fn trevozhil_is_right(s: *const u8, s_len: usize, q: u64, a: *mut u64, b: *mut u64) -> u32;
+
+        pub fn trevozhil_plan(
+            s: *const u8, s_len: usize, out: *mut u8, out_len: usize, a: *mut u64, b: *mut u64,
+        ) -> u32;
+
+        pub fn trevozhil_unfold(
+            s: *const u8, s_len: usize, out: *mut u8, out_len: usize, a: *mut u64, b: *mut u64,
+        ) -> u32;
+
+        pub fn trevozhil_margin(
+            s: *const u8, s_len: usize, i: u64, j: u64, n: u64, q: u64,
+            margin: *mut i32, a: *mut u64, b: *mut u64,
+        ) -> u32;
+
+        pub fn trevozhil_fold(
+            s: *const u8, s_len: usize, out: *mut u8, out_len: usize, a: *mut u64, b: *mut u64,
         ) -> u32;
     }
 }
@@ -105,4 +99,35 @@ pub fn period(bytes: &mut [u8]) -> Said {
 pub fn is_right(bytes: &mut [u8], q: u64) -> Said {
     let (s, s_len) = (bytes.as_mut_ptr(), bytes.len());
     said(|a, b| unsafe { c::trevozhil_is_right(s, s_len, q, a, b) })
+}
+
+/// The margin goes to the middle one of three places.
+pub fn margin(bytes: &mut [u8], asked: (u64, u64, u64, u64), places: &mut [i32; 3]) -> Said {
+    let (i, j, n, q) = asked;
+    let (s, s_len) = (bytes.as_mut_ptr(), bytes.len());
+    said(|a, b| unsafe {
+        let margin = places.as_mut_ptr().add(1);
+        c::trevozhil_margin(s, s_len, i, j, n, q, margin, a, b)
+    })
+}
+
+/// A function that reads bytes and writes bytes.
+type Writing = unsafe extern "C" fn(*const u8, usize, *mut u8, usize, *mut u64, *mut u64) -> u32;
+
+fn written(function: Writing, bytes: &mut [u8], out: &mut [u8]) -> Said {
+    let (s, s_len) = (bytes.as_mut_ptr(), bytes.len());
+    let (out, out_len) = (out.as_mut_ptr(), out.len());
+    said(|a, b| unsafe { function(s, s_len, out, out_len, a, b) })
+}
+
+pub fn plan(bytes: &mut [u8], out: &mut [u8]) -> Said {
+    written(c::trevozhil_plan, bytes, out)
+}
+
+pub fn unfold(reply: &mut [u8], out: &mut [u8]) -> Said {
+    written(c::trevozhil_unfold, reply, out)
+}
+
+pub fn fold(bytes: &mut [u8], out: &mut [u8]) -> Said {
+    written(c::trevozhil_fold, bytes, out)
 }

@@ -63,14 +63,39 @@ fn run_has_right_boards(table: &Table, all: &[Instance], q: u64) -> bool {
 }
 
 /// "the last write of that cell that ended at or before the reader's start; with
-/// none, the initial value", in the plain run, among the writes of all cycles.
-/// Two writes of a cell never end together in an accepted table: in one cycle
-/// they would race, and the end of cycle k's are after k·p and at most (k+1)·p.
-fn source(table: &Table, all: &[Instance], reader: Instance, cell: u64) -> Option<Instance> {
-    let p = table.len;
+/// none, the initial value", among the writes of all cycles, when cycle k starts
+/// at k·q.
+fn last_ended(
+    table: &Table,
+    all: &[Instance],
+    reader: Instance,
+    cell: u64,
+    q: u64,
+) -> Option<Instance> {
     let writes = all.iter().filter(|who| has(table.ops[who.op].writes, cell));
-    let ended = writes.filter(|who| end_of(table, **who, p) <= start_of(table, reader, p));
-    ended.max_by_key(|who| end_of(table, **who, p)).copied()
+    let ended = writes.filter(|who| end_of(table, **who, q) <= start_of(table, reader, q));
+    ended.max_by_key(|who| end_of(table, **who, q)).copied()
+}
+
+/// The source of a reader: what it takes in the plain run. Two writes of a cell
+/// never end together there in an accepted table: in one cycle they would race,
+/// and the end of cycle k's are after k·p and at most (k+1)·p.
+fn source(table: &Table, all: &[Instance], reader: Instance, cell: u64) -> Option<Instance> {
+    last_ended(table, all, reader, cell, table.len)
+}
+
+/// The write, as its operation and its cycle, whose value an operation of a cycle
+/// would take when cycle k starts at k·q, right or not.
+pub fn taken_from(
+    table: &Table,
+    run: &[u64],
+    reader: (usize, u64),
+    cell: u64,
+    q: u64,
+) -> Option<(usize, u64)> {
+    let (op, cycle) = reader;
+    let all = instances(table, run);
+    last_ended(table, &all, Instance { op, cycle }, cell, q).map(|write| (write.op, write.cycle))
 }
 
 /// "each reader's source, as the plain run has it, has ended at or before the

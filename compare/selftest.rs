@@ -1,15 +1,18 @@
-//! The bench tables and the byte examples, and a few checks on drawn inputs.
+//! Byte examples, the story of the turn that nobody typed, and a few checks on drawn inputs.
+//! What the tables of `examples/` fold to stands in their comments and is checked there.
 
-use crate::answers::{is_right, margin, plan, text, unfold};
+use crate::answers::{is_right, margin, plan, start_bytes, text, unfold};
+use crate::examples::K1;
 use crate::generate::{self, Seed};
+use crate::hex::bytes_in;
 use crate::judge::{bytes_of, judge, judge_numbers, numbers_of, push_number, write_table};
-use crate::judge::{Numbers, Op, Refusal, Table};
-use crate::runs::{period, right};
+use crate::judge::{Numbers, Refusal};
+use crate::runs::{right, run_is_right, taken_from};
 
 /// How many checks passed and failed.
-pub struct Tally {
-    pub passed: u64,
-    pub failed: u64,
+struct Tally {
+    passed: u64,
+    failed: u64,
 }
 
 impl Tally {
@@ -47,17 +50,6 @@ impl Tally {
         self.check(name, write_table(numbers, &mut out).map(|_| ()) == expected);
         self.check(name, out.iter().all(|byte| *byte == 0x5a));
     }
-
-    /// The table is accepted with this period and these rows.
-    fn planned(&mut self, name: &str, table: &Table, q: u64, rows: &[(u64, u64)]) {
-        self.check(name, judge(&bytes_of(table)).as_ref() == Ok(table));
-        self.check(name, period(table) == q);
-        let mut lines = format!("period {}\n", q);
-        for (i, (start, fst)) in rows.iter().enumerate() {
-            lines.push_str(&format!("op {} start {} fst {}\n", i, start, fst));
-        }
-        self.check(name, text(&bytes_of(table)) == lines);
-    }
 }
 
 fn refusal_of(figures: (u32, u64, u64)) -> Refusal {
@@ -68,204 +60,105 @@ fn refusal_of(figures: (u32, u64, u64)) -> Refusal {
     }
 }
 
-/// Bytes from hexadecimal digits; all else between them is passed over.
-pub fn from_hex(digits: &str) -> Vec<u8> {
-    let all: Vec<u8> = digits
-        .chars()
-        .filter_map(|c| c.to_digit(16))
-        .map(|d| d as u8)
-        .collect();
-    all.chunks(2)
-        .filter(|pair| pair.len() == 2)
-        .map(|pair| pair[0] * 16 + pair[1])
-        .collect()
+/// Bytes from hexadecimal text.
+fn from_hex(digits: &str) -> Vec<u8> {
+    bytes_in(digits).expect("hexadecimal text")
 }
 
-// ---- the bench tables ---------------------------------------------------
+/// What is text of bytes, and what is not.
+fn hexadecimal(tally: &mut Tally) {
+    let good = bytes_in("01 fF# 02\n\t0304 # 5");
+    tally.check("text", good == Some(vec![0x01, 0xff, 0x03, 0x04]));
+    for bad in ["0", "012", "0x01", "01,02", "0 1", "01 g0"] {
+        tally.check("no text", bytes_in(bad) == None);
+    }
+}
 
-pub const K1: &str = "01 00 02 00 05 02 00 03 01 00 01 03 00 08 00 00 00 01 00 00 00 01 \
-                  04 00 12 00 01 00 03 00 01 00 00 00 00 00 00 00 00 00 00 00 01";
+// ---- questions about the bench tables -----------------------------------
 
 fn k1() -> Vec<u8> {
     from_hex(K1)
 }
 
-/// [start, end) on one board, with cells and modes.
-fn op(start: u64, end: u64, board: u64, reads: u64, writes: u64, modes: u64) -> Op {
-    Op {
-        start,
-        dur: end - start,
-        boards: 1 << board,
-        reads,
-        writes,
-        modes,
-    }
-}
-
-/// "One mode that follows itself unless said."
-fn one_mode(len: u64, boards: u64, cells: u64, ops: Vec<Op>) -> Table {
-    Table {
-        len,
-        boards,
-        cells,
-        modes: 1,
-        first: 1,
-        follow: vec![1],
-        ops,
-    }
-}
-
-/// "K1*: the input above; period 3. Margin of 0, 0 at n 1: 0 for q 3, −1 for q 2."
+/// "The reply bytes are ..", "Margin of 0, 0 at n 1: 0 for q 3, −1 for q 2", "K1 into 11
+/// bytes: refused 8 12 0; into 12 accepted"
 fn bench_k1(tally: &mut Tally) {
-    let table = one_mode(5, 1, 0, vec![op(1, 4, 0, 0, 0, 1)]);
-    tally.check("K1 bytes", bytes_of(&table) == k1());
-    tally.planned("K1", &table, 3, &[(1, 0)]);
     tally.check("K1 margin 3", margin(&k1(), 0, 0, 1, 3) == Ok(0));
     tally.check("K1 margin 2", margin(&k1(), 0, 0, 1, 2) == Ok(-1));
-    tally.check("K1 text", text(&k1()) == "period 3\nop 0 start 1 fst 0\n");
     let mut out = [0xee; 14];
     tally.check("K1 count", plan(&k1(), &mut out) == Ok(12));
     let expected = from_hex("11 00 02 00 03 12 00 04 00 01 00 00 ee ee");
     tally.check("K1 reply", out[..] == expected[..]);
     let mut starts = [0xee; 3];
-    tally.check(
-        "K1 unfold",
-        unfold(&out[..12], &mut starts) == Ok(2) && starts == [0, 1, 0xee],
-    );
-}
-
-fn k2() -> Table {
-    one_mode(
-        6,
-        3,
-        2,
-        vec![
-            op(0, 2, 0, 0, 1, 1),
-            op(2, 4, 1, 1, 2, 1),
-            op(4, 6, 2, 2, 0, 1),
-        ],
-    )
-}
-
-fn k4() -> Table {
-    one_mode(4, 1, 0, vec![op(0, 1, 0, 0, 0, 1), op(3, 4, 0, 0, 0, 1)])
-}
-
-/// K2 to K4.
-fn bench_chains(tally: &mut Tally) {
-    tally.planned("K2", &k2(), 2, &[(0, 0), (0, 1), (0, 2)]);
-    let mut k3 = k2();
-    k3.ops[0].reads = 2;
-    tally.planned("K3", &k3, 4, &[(0, 0), (2, 0), (0, 1)]);
-    tally.planned("K4", &k4(), 2, &[(0, 0), (1, 1)]);
-    tally.check("K4 at 3", is_right(&bytes_of(&k4()), 3) == Ok(false));
-    tally.check("K4 at 2", is_right(&bytes_of(&k4()), 2) == Ok(true));
-    tally.check("K4 at 4", is_right(&bytes_of(&k4()), 4) == Ok(true));
-}
-
-fn k5() -> Table {
-    let ops = vec![op(0, 4, 0, 0, 0, 1), op(0, 4, 1, 0, 0, 2)];
-    Table {
-        len: 4,
-        boards: 2,
-        cells: 0,
-        modes: 2,
-        first: 1,
-        follow: vec![2, 1],
-        ops,
-    }
-}
-
-/// K5 to K7.
-fn bench_turns(tally: &mut Tally) {
-    tally.planned("K5", &k5(), 2, &[(0, 0), (0, 0)]);
-    let mut k6 = k5();
-    k6.follow = vec![3, 3];
-    tally.planned("K6", &k6, 4, &[(0, 0), (0, 0)]);
-    let ops = vec![op(4, 6, 1, 0, 1, 1), op(0, 1, 0, 1, 0, 4)];
-    let k7 = Table {
-        len: 6,
-        boards: 2,
-        cells: 1,
-        modes: 3,
-        first: 1,
-        follow: vec![2, 4, 1],
-        ops,
-    };
-    tally.planned("K7", &k7, 3, &[(1, 1), (0, 0)]);
-}
-
-/// K8 to K10.
-fn bench_rest(tally: &mut Tally) {
-    let ops = vec![
-        op(0, 2, 0, 0, 1, 1),
-        op(2, 3, 1, 1, 0, 1),
-        op(3, 6, 2, 0, 1, 1),
-    ];
-    tally.planned("K8", &one_mode(6, 3, 1, ops), 3, &[(0, 0), (2, 0), (0, 1)]);
-    let ops = vec![op(0, 4, 0, 0, 0, 1)];
-    let k9 = Table {
-        len: 4,
-        boards: 1,
-        cells: 0,
-        modes: 2,
-        first: 2,
-        follow: vec![1, 2],
-        ops,
-    };
-    tally.planned("K9", &k9, 1, &[(0, 0)]);
-    let bad = one_mode(3, 1, 0, vec![op(0, 2, 0, 0, 0, 1), op(1, 3, 0, 0, 0, 1)]);
-    tally.refused("K10", &bytes_of(&bad), (6, 0, 1));
-    let good = one_mode(3, 1, 0, vec![op(0, 2, 0, 0, 0, 1), op(2, 3, 0, 0, 0, 1)]);
-    tally.planned("K10 touching", &good, 3, &[(0, 0), (2, 0)]);
-}
-
-/// K1 with one byte changed.
-fn k1_with(place: usize, byte: u8) -> Vec<u8> {
-    let mut bytes = k1();
-    bytes[place] = byte;
-    bytes
-}
-
-/// K1 with its length p changed.
-fn k1_long(p: u64) -> Vec<u8> {
-    let mut bytes = k1();
-    bytes[3] = (p >> 8) as u8;
-    bytes[4] = p as u8;
-    bytes
-}
-
-/// The head of K1 and its operation so many times.
-fn k1_times(times: usize) -> Vec<u8> {
-    let mut bytes = k1()[..22].to_vec();
-    for _ in 0..times {
-        bytes.extend_from_slice(&k1()[22..]);
-    }
-    bytes
-}
-
-/// The cases without a star.
-fn bench_unstarred(tally: &mut Tally) {
-    tally.refused("empty", &[], (2, 0, 0));
-    tally.refused("duration 5", &k1_with(28, 5), (4, 22, 0));
-    tally.check("duration 4", judge(&k1_with(28, 4)).is_ok());
+    let count = unfold(&out[..12], &mut starts);
+    tally.check("K1 unfold", count == Ok(2) && starts == [0, 1, 0xee]);
     let mut eleven = [7; 11];
+    let refused = plan(&k1(), &mut eleven) == Err(refusal_of((8, 12, 0)));
+    tally.check("K1 into 11", refused && eleven == [7; 11]);
+    tally.check("K1 into 12", plan(&k1(), &mut [7; 12]) == Ok(12));
+}
+
+/// "Period 2, though 3 is not right."
+fn bench_k4(tally: &mut Tally) {
+    let k4 = from_hex(include_str!("../examples/k04.hex"));
+    for (q, is) in [(1, false), (2, true), (3, false), (4, true)] {
+        tally.check("K4", is_right(&k4, q) == Ok(is));
+    }
+}
+
+/// The margins that are farthest from 0.
+fn margins(tally: &mut Tally) {
+    let bytes = bytes_of(&generate::widest());
+    tally.check("least", margin(&bytes, 0, 1, 1, 1) == Ok(-999));
+    tally.check("most", margin(&bytes, 1, 2, 1000, 1000) == Ok(1_000_998));
+}
+
+// ---- the turn that nobody typed -----------------------------------------
+
+/// Modes of the analyzer.
+const COLD: u64 = 0;
+const WARM: u64 = 1;
+
+/// The runs of ten cycles that were typed: warm cycles and then cold ones, also none of either.
+fn typed_runs() -> Vec<Vec<u64>> {
+    (0..=10)
+        .map(|warm| [vec![WARM; warm], vec![COLD; 10 - warm]].concat())
+        .collect()
+}
+
+/// At the period of the table with the typed turns, the typed runs pass also on the table
+/// with every turn. On a turn from cold to warm compensation takes an earlier cycle's
+/// temperature there, and from the period of the second table up that of the cycle before.
+fn untyped_turn(tally: &mut Tally) {
+    let typed = from_hex(include_str!("../examples/analyzer-typed-turns.hex"));
+    let every = from_hex(include_str!("../examples/analyzer-cold-to-warm.hex"));
+    let table = judge(&every).expect("the example is accepted");
+    let passes = |q| typed_runs().iter().all(|run| run_is_right(&table, run, q));
     tally.check(
-        "into 11",
-        plan(&k1(), &mut eleven) == Err(refusal_of((8, 12, 0))),
+        "typed runs at 70",
+        passes(70) && is_right(&typed, 70) == Ok(true),
     );
-    tally.check("11 kept", eleven == [7; 11]);
-    tally.check("into 12", plan(&k1(), &mut [7; 12]) == Ok(12));
     tally.check(
-        "p 1000",
-        text(&k1_long(1000)) == "period 3\nop 0 start 1 fst 0\n",
+        "typed runs at 69",
+        !passes(69) && is_right(&typed, 69) == Ok(false),
     );
-    tally.refused("p 1001", &k1_long(1001), (4, 0, 0));
-    tally.refused("32 times", &k1_times(32), (6, 0, 1));
-    tally.refused("33 times", &k1_times(33), (5, 694, 0));
+    let turn = [COLD, COLD, WARM];
+    tally.check("turn at 70", !run_is_right(&table, &turn, 70));
+    tally.check("turn at 99", !run_is_right(&table, &turn, 99));
+    tally.check("turn at 100", run_is_right(&table, &turn, 100));
+    let (compensate, read, temperature) = (2, 4, 1);
+    for (q, cycle) in [(200, 1), (100, 1), (99, 0), (70, 0)] {
+        let taken = taken_from(&table, &turn, (compensate, 2), temperature, q);
+        tally.check("temperature", taken == Some((read, cycle)));
+    }
 }
 
 // ---- byte examples ------------------------------------------------------
+
+/// The head of K1 and its operation so many times.
+fn k1_times(times: usize) -> Vec<u8> {
+    [&k1()[..22], &k1()[22..].repeat(times)].concat()
+}
 
 /// The first bytes of K1 so many, and more behind them.
 fn joined(front: &[u8], more: &str) -> Vec<u8> {
@@ -334,19 +227,12 @@ fn points_of_pairs(tally: &mut Tally) {
     );
 }
 
+const UNREACHED_CLASH: &str = "0100020004 020003010002 03000c000000010000000100000002 \
+    040012000000020001000000000000000000000002 040012000100020001000000000000000000000002";
+
 /// Points 10 and 11: pairs count unreachable modes; no bytes past 821 count.
 fn points_of_reach(tally: &mut Tally) {
-    let ops = vec![op(0, 2, 0, 0, 0, 2), op(1, 3, 0, 0, 0, 2)];
-    let table = Table {
-        len: 4,
-        boards: 1,
-        cells: 0,
-        modes: 2,
-        first: 1,
-        follow: vec![1, 2],
-        ops,
-    };
-    tally.refused("10", &bytes_of(&table), (6, 0, 1));
+    tally.refused("10", &from_hex(UNREACHED_CLASH), (6, 0, 1));
     let mut seed = Seed::new(1);
     let mut table = generate::largest(&mut seed);
     while table.ops.len() < 32 {
@@ -455,30 +341,18 @@ fn points_of_large_numbers(tally: &mut Tally) {
 /// ASK: places of the first bad one; the table's own refusals come first.
 fn questions(tally: &mut Tally) {
     let k1 = k1();
-    tally.check(
-        "ask i",
-        margin(&k1, 1, 1, 0, 0) == Err(refusal_of((9, 0, 0))),
-    );
-    tally.check(
-        "ask j",
-        margin(&k1, 0, 1, 0, 0) == Err(refusal_of((9, 1, 0))),
-    );
-    tally.check(
-        "ask n",
-        margin(&k1, 0, 0, 0, 0) == Err(refusal_of((9, 2, 0))),
-    );
-    tally.check(
-        "ask n",
-        margin(&k1, 0, 0, 1001, 1) == Err(refusal_of((9, 2, 0))),
-    );
-    tally.check(
-        "ask q",
-        margin(&k1, 0, 0, 1000, 0) == Err(refusal_of((9, 3, 0))),
-    );
-    tally.check(
-        "ask q",
-        margin(&k1, 0, 0, 1000, 6) == Err(refusal_of((9, 3, 0))),
-    );
+    let bad = [
+        ((1, 1, 0, 0), 0),
+        ((0, 1, 0, 0), 1),
+        ((0, 0, 0, 0), 2),
+        ((0, 0, 1001, 1), 2),
+        ((0, 0, 1000, 0), 3),
+        ((0, 0, 1000, 6), 3),
+    ];
+    for ((i, j, n, q), place) in bad {
+        let expected = Err(refusal_of((9, place, 0)));
+        tally.check("ask", margin(&k1, i, j, n, q) == expected);
+    }
     tally.check("ask good", margin(&k1, 0, 0, 1000, 5) == Ok(4997));
     tally.check("ask 0", is_right(&k1, 0) == Err(refusal_of((9, 0, 0))));
     tally.check("ask 6", is_right(&k1, 6) == Err(refusal_of((9, 0, 0))));
@@ -522,10 +396,7 @@ fn round_trips(tally: &mut Tally, seed: &mut Seed) {
         "unfold",
         unfold(&reply[..count], &mut starts) == Ok(2 * table.ops.len()),
     );
-    let mut expected = Vec::new();
-    for op in &table.ops {
-        push_number(&mut expected, op.start, 2);
-    }
+    let expected = start_bytes(table.ops.iter().map(|op| op.start));
     tally.check("starts", starts[..expected.len()] == expected[..]);
     tally.check("p is right", right(&table, table.len));
     tally.check(
@@ -594,17 +465,17 @@ fn keeps_bytes(tally: &mut Tally, seed: &mut Seed) {
 }
 
 /// All checks.
-pub fn selftest() -> Tally {
+fn selftest() -> Tally {
     let mut tally = Tally {
         passed: 0,
         failed: 0,
     };
     let fixed = [
+        hexadecimal,
         bench_k1,
-        bench_chains,
-        bench_turns,
-        bench_rest,
-        bench_unstarred,
+        bench_k4,
+        margins,
+        untyped_turn,
         points_of_order,
         points_of_size,
         points_of_pairs,
@@ -624,4 +495,11 @@ pub fn selftest() -> Tally {
         keeps_bytes(&mut tally, &mut seed);
     }
     tally
+}
+
+/// True where no check failed.
+pub fn selftest_command() -> bool {
+    let tally = selftest();
+    println!("{} passed, {} failed", tally.passed, tally.failed);
+    tally.failed == 0
 }

@@ -38,7 +38,9 @@ fn after(table: &Table, set: u64, n: u64, writing: u64) -> u64 {
 /// The modes of the operations that write the cell and pass a test.
 fn writing(table: &Table, cell: u64, test: impl Fn(&Op) -> bool) -> u64 {
     let writers = table.ops.iter().filter(|op| has(op.writes, cell));
-    writers.filter(|op| test(op)).fold(0, |all, op| all | op.modes)
+    writers
+        .filter(|op| test(op))
+        .fold(0, |all, op| all | op.modes)
 }
 
 /// Operation u, n cycles later, wants a board while o holds it.

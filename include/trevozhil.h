@@ -1,5 +1,6 @@
 /*
- * Trevozhil: tables of one measuring cycle, judged, written and asked about.
+ * Trevozhil: tables of one measuring cycle, judged, written and asked about, folded onto their smallest period, and
+ * unfolded.
  *
  * Each function returns 0, or the number of a refusal. It always writes *a and *b. Of a refusal they are its two
  * figures:
@@ -22,8 +23,8 @@
  *
  * There is an answer to every input: the bytes and numbers may be anything. What the caller sees to: each pointer is
  * valid for as many elements as its length says, and is not null, even where that is 0; a and b are two places; and
- * what a function writes (*a, *b, out) meets nothing else that is handed to the same call. An input is not changed.
- * Nothing is kept from one call to the next, and there is no state, so that calls may run side by side.
+ * what a function writes (*a, *b, *margin, out) meets nothing else that is handed to the same call. An input is not
+ * changed. Nothing is kept from one call to the next, and there is no state, so that calls may run side by side.
  */
 #ifndef TREVOZHIL_H
 #define TREVOZHIL_H
@@ -47,6 +48,12 @@ extern "C" {
 
 /* The longest table has this many bytes. */
 #define TREVOZHIL_LONGEST_TABLE 818
+
+/* The longest reply has this many bytes; a reply has 5 and 7 for each operation. */
+#define TREVOZHIL_LONGEST_REPLY 229
+
+/* The starts of the most operations have this many bytes; each has 2. */
+#define TREVOZHIL_LONGEST_STARTS 64
 
 /*
  * Judges a table's bytes: the s_len bytes at s.
@@ -84,10 +91,47 @@ uint32_t trevozhil_period(const uint8_t *s, size_t s_len, uint64_t *a, uint64_t 
 
 /*
  * Whether q is a right period of a table.
- * Answers 0 with 1 (it is) or 0 (it is not) in *a, or a refusal from 1 to 7, or ASK where q is not from 1 to the table's
- * length; ASK comes last.
+ * Answers 0 with 1 (it is) or 0 (it is not) in *a, or a refusal from 1 to 7, or ASK where q is not from 1 to the
+ * table's length; ASK comes last.
  */
 uint32_t trevozhil_is_right(const uint8_t *s, size_t s_len, uint64_t q, uint64_t *a, uint64_t *b);
+
+/*
+ * Folds a table onto its period, and writes the reply's bytes to out, which has room for out_len bytes: the period,
+ * then for each operation in table order its folded start and its start index.
+ * Answers 0 where they are written, or a refusal from 1 to 8; ROOM comes last. Where it answers 0 the first *a bytes of
+ * out are the reply's, and the others are as they were. Where it refuses, every byte of out is as it was.
+ */
+uint32_t trevozhil_plan(const uint8_t *s, size_t s_len, uint8_t *out, size_t out_len, uint64_t *a, uint64_t *b);
+
+/*
+ * Unfolds a reply, the s_len bytes at s: writes the starts that its rows came from to out, 2 bytes each, the most
+ * significant first, in the order of the rows.
+ * Answers 0 where they are written, or a refusal from 1 to 5 of the reply's fields, or ROOM, which comes last. Where it
+ * answers 0 the first *a bytes of out are the starts, and the others are as they were. Where it refuses, every byte of
+ * out is as it was.
+ */
+uint32_t trevozhil_unfold(const uint8_t *s, size_t s_len, uint8_t *out, size_t out_len, uint64_t *a, uint64_t *b);
+
+/*
+ * The margin of operations i and j of a table at distance n and period q: n * q - (the end of i - the start of j).
+ * It is what is left from the end of i to the start of j n cycles later: negative where i ends after that, 0 where it
+ * ends exactly then.
+ * Answers 0 with the margin in *margin, and 0 in *a and *b; or a refusal from 1 to 7; or ASK where i or j is no
+ * operation of the table, n is not from 1 to 1000, or q is not from 1 to the table's length: the places 0 to 3 in this
+ * order. ASK comes last. Where it refuses, *margin is as it was.
+ */
+uint32_t trevozhil_margin(const uint8_t *s, size_t s_len, uint64_t i, uint64_t j, uint64_t n, uint64_t q,
+                          int32_t *margin, uint64_t *a, uint64_t *b);
+
+/*
+ * Writes to out, which has room for out_len bytes, the text that the program fold prints for a table's bytes: the line
+ * `period q` and a line `op i start s fst f` for each operation, or the line `refused n a b`. Each line ends with a
+ * line feed, and no byte 0 follows.
+ * Answers 0 where the text is written, that of a refused table too, or ROOM. Where it answers 0 the first *a bytes of
+ * out are the text, and the others are as they were. Where it answers ROOM, every byte of out is as it was.
+ */
+uint32_t trevozhil_fold(const uint8_t *s, size_t s_len, uint8_t *out, size_t out_len, uint64_t *a, uint64_t *b);
 
 #ifdef __cplusplus
 }

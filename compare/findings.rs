@@ -1,0 +1,146 @@
+//! What is seen of a call, and what was found in all of them.
+
+use crate::generate::Seed;
+use crate::hex::hex;
+use crate::judge::Refusal;
+use crate::library::Said;
+
+/// The functions that are compared, each with the numbers that have to be met: 0
+/// for success, and each refusal that the function can give. What `fold` writes of
+/// a refused table is counted by itself.
+const FUNCTIONS: [(&str, &[usize]); 10] = [
+    ("judge", &[0, 1, 2, 3, 4, 5, 6, 7]),
+    ("judge_numbers", &[0, 1, 2, 3, 4, 5, 6, 7]),
+    ("write", &[0, 1, 2, 3, 4, 5, 6, 7, 8]),
+    ("period", &[0, 1, 2, 3, 4, 5, 6, 7]),
+    ("is_right", &[0, 1, 2, 3, 4, 5, 6, 7, 9]),
+    ("plan", &[0, 1, 2, 3, 4, 5, 6, 7, 8]),
+    ("unfold", &[0, 1, 2, 3, 4, 5, 8]),
+    ("margin", &[0, 1, 2, 3, 4, 5, 6, 7, 9]),
+    ("fold", &[0, 8]),
+    ("fold, refused", &[0, 8]),
+];
+
+/// Success and the refusals, by their numbers.
+const NAMES: [&str; 10] = [
+    "good", "SHORT", "ORDER", "SIZE", "RANGE", "MANY", "CLASH", "RACE", "ROOM", "ASK",
+];
+
+/// How many differences are printed; the others are only counted.
+const MOST_PRINTED: u64 = 5;
+
+/// Bytes in front of a lent buffer and behind it, which have to stay.
+const GUARD: usize = 16;
+
+// ---- what is seen of a call ---------------------------------------------
+
+/// What is told, whether the input is as it was, and the lent memory with the
+/// bytes around it.
+#[derive(PartialEq, Eq)]
+pub struct Seen {
+    pub said: Said,
+    pub kept: bool,
+    pub memory: Vec<u8>,
+}
+
+/// An answer as the library tells it: on success the number is 0, a the number of
+/// bytes written or what was asked for (0 where neither is told) and b 0.
+fn said_of(answer: Result<usize, Refusal>) -> Said {
+    match answer {
+        Ok(count) => Said {
+            number: 0,
+            a: count as u64,
+            b: 0,
+        },
+        Err(refusal) => Said {
+            number: refusal.number,
+            a: refusal.a,
+            b: refusal.b,
+        },
+    }
+}
+
+/// What the planner's answer looks like.
+pub fn planned(answer: Result<usize, Refusal>, memory: Vec<u8>) -> Seen {
+    Seen {
+        said: said_of(answer),
+        kept: true,
+        memory,
+    }
+}
+
+/// Memory with a pattern for a buffer of this length.
+pub fn memory_for(seed: &mut Seed, length: usize) -> Vec<u8> {
+    let first = seed.draw() as u8;
+    (0..GUARD + length + GUARD)
+        .map(|place| first.wrapping_add((place * 7 + place / 256) as u8))
+        .collect()
+}
+
+/// The part of the memory that is lent.
+pub fn lent(memory: &mut [u8]) -> &mut [u8] {
+    let end = memory.len() - GUARD;
+    &mut memory[GUARD..end]
+}
+
+// ---- what was found -----------------------------------------------------
+
+/// How often each function gave each number, and how many answers differ.
+#[derive(Default)]
+pub struct Findings {
+    met: [[u64; NAMES.len()]; FUNCTIONS.len()],
+    pub differences: u64,
+}
+
+impl Findings {
+    /// One input of a function, with both answers to it.
+    pub fn note(&mut self, name: &str, input: impl Fn() -> String, library: &Seen, planner: &Seen) {
+        let place = FUNCTIONS.iter().position(|function| function.0 == name);
+        self.met[place.expect("a function")][planner.said.number as usize] += 1;
+        if library == planner {
+            return;
+        }
+        self.differences += 1;
+        if self.differences <= MOST_PRINTED {
+            println!("{} differs on {}", name, input());
+            print_seen("library", library);
+            print_seen("planner", planner);
+        }
+    }
+
+    /// The table of what was met.
+    pub fn print(&self) {
+        print!("{:<14}", "");
+        NAMES.iter().for_each(|name| print!("{:>8}", name));
+        println!();
+        for (place, (name, _)) in FUNCTIONS.iter().enumerate() {
+            print!("{:<14}", name);
+            self.met[place]
+                .iter()
+                .for_each(|count| print!("{:>8}", count));
+            println!();
+        }
+    }
+
+    /// The numbers that a function has to be seen to give, and was not.
+    pub fn missed(&self) -> Vec<String> {
+        let mut all = Vec::new();
+        for (place, (name, numbers)) in FUNCTIONS.iter().enumerate() {
+            for number in numbers.iter() {
+                if self.met[place][*number] == 0 {
+                    all.push(format!("{} was never {}", name, NAMES[*number]));
+                }
+            }
+        }
+        all
+    }
+}
+
+fn print_seen(who: &str, seen: &Seen) {
+    let Said { number, a, b } = seen.said;
+    let input = if seen.kept { "" } else { ", input changed" };
+    println!("  {} {} {} {}{}", who, number, a, b, input);
+    if !seen.memory.is_empty() {
+        println!("    memory {}", hex(&seen.memory));
+    }
+}
