@@ -1,11 +1,11 @@
 // The planner: the public functions. Each promise is in the words of `rules` alone.
 ghost use mathlib.Core.Path.{_≡_};
-ghost use Rattle.rules.specs.Answers.{IsPlan, IsUnfold, IsMargin, IsRight, IsWrite};
+ghost use Rattle.rules.specs.Answers.{IsPlan, IsFold, IsUnfold, IsMargin, IsRight, IsWrite};
 ghost use Rattle.fields.specs.Verdicts.{answered, left};
 ghost use Rattle.table.specs.Tables.{tableOf, Good};
 ghost use Rattle.handed.specs.Handed.{numbers};
 ghost use Rattle.questions.specs.Questions.{measuredOf, saidOf};
-ghost use Rattle.planner.specs.Plans.{Plans};
+ghost use Rattle.planner.specs.Plans.{Plans, Folds};
 use fields::Answer;
 use fields::Refusal;
 use fields::Verdict;
@@ -38,6 +38,29 @@ pub fn plan(s: &[u8], out: &mut [u8]) -> Answer
     match verdict {
         Verdict::Refused(r) => Answer::Denied(r),
         Verdict::Accepted => plan_table(judged.table, out),
+    }
+}
+
+// ---- a table's bytes in, the text of its reply or of its refusal out
+
+// The text of an accepted table's reply, or ROOM.
+fn fold_table(t: Table, out: &mut [u8]) -> Answer
+    requires { ⌜ Good t ⌝ }
+    ensures { λ r. ⌜ Folds (tableOf t) (now (out .entry)) (left (answered r) (now (out .exit))) ⌝ }
+{
+    let q = period::smallest(t);
+    text::put_reply(out, t, q)
+}
+
+// What the program `fold` prints: the period and the rows, or the refusal's line. On ROOM every byte of the buffer stays.
+pub fn fold(s: &[u8], out: &mut [u8]) -> Answer
+    ensures { λ r. ⌜ IsFold (now (s .entry)) (now (out .entry)) (left (answered r) (now (out .exit))) ⌝ }
+{
+    let judged = reading::read(s);
+    let verdict = judged.verdict;
+    match verdict {
+        Verdict::Refused(r) => text::put_refusal(out, r),
+        Verdict::Accepted => fold_table(judged.table, out),
     }
 }
 

@@ -9,9 +9,9 @@ use Rattle.rules.specs.Runs.{IsPeriod}
 use Rattle.rules.specs.Verdicts.{Verdict}
 use Rattle.rules.specs.Judge.{judge, Numbers}
 use Rattle.theory.proofs.Period.{period-unique}
-use Rattle.theory.proofs.Answering.{answers-unique, plan-unique, unfold-unique, write-unique, margin-unique, right-unique}
+use Rattle.theory.proofs.Answering.{answers-unique, plan-unique, fold-unique, unfold-unique, write-unique, margin-unique, right-unique}
 use Rattle.trevozhil.specs.declared.Said.{Said}
-use Rattle.trevozhil.specs.Said.{Left, leftOf, saidOf, yesOf, Measure, measureOf, JudgeSays, NumbersSay, WriteLeaves, PlanLeaves, UnfoldLeaves, PeriodSays, RightSays, MarginLeaves}
+use Rattle.trevozhil.specs.Said.{Left, leftOf, saidOf, yesOf, Measure, measureOf, JudgeSays, NumbersSay, WriteLeaves, PlanLeaves, FoldLeaves, UnfoldLeaves, PeriodSays, RightSays, MarginLeaves}
 
 pub judge-one : (s : List ℕ) (w x : Said) → JudgeSays s w → JudgeSays s x → w ≡ x
 judge-one s w x e f = e ∙ sym f
@@ -31,6 +31,9 @@ right-one s q w x (v, p, e) (u, r, f) = e ∙ ap (λ (y : Verdict Bool). saidOf 
 
 pub plan-one : (s out : List ℕ) (l m : Left) → PlanLeaves s out l → PlanLeaves s out m → l ≡ m
 plan-one s out l m (w, p, e) (x, q, f) = e ∙ ap leftOf (plan-unique s out w x p q) ∙ sym f
+
+pub fold-one : (s out : List ℕ) (l m : Left) → FoldLeaves s out l → FoldLeaves s out m → l ≡ m
+fold-one s out l m (w, p, e) (x, q, f) = e ∙ ap leftOf (fold-unique s out w x p q) ∙ sym f
 
 pub unfold-one : (s out : List ℕ) (l m : Left) → UnfoldLeaves s out l → UnfoldLeaves s out m → l ≡ m
 unfold-one s out l m (w, p, e) (x, q, f) = e ∙ ap leftOf (unfold-unique s out w x p q) ∙ sym f

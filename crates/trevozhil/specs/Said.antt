@@ -8,7 +8,7 @@ use lib.IntN.{ℤ}
 use Rattle.rules.specs.Runs.{IsPeriod}
 use Rattle.rules.specs.Verdicts.{Verdict, accepted, refused, onwards}
 use Rattle.rules.specs.Judge.{judge, Numbers, judgeNumbers}
-use Rattle.rules.specs.Answers.{Written, Answers, IsPlan, IsUnfold, IsWrite, IsMargin, IsRight}
+use Rattle.rules.specs.Answers.{Written, Answers, IsPlan, IsFold, IsUnfold, IsWrite, IsMargin, IsRight}
 use Rattle.trevozhil.specs.declared.Said.{Said}
 
 -- the number that is returned, and what a and b hold then
@@ -53,6 +53,10 @@ WriteLeaves N out l = (w : Written) × IsWrite N out w × (l ≡ leftOf w)
 -- trevozhil_plan, with a lent buffer
 abbrev pub PlanLeaves : List ℕ → List ℕ → Left → Type 0
 PlanLeaves s out l = (w : Written) × IsPlan s out w × (l ≡ leftOf w)
+
+-- trevozhil_fold, with a lent buffer
+abbrev pub FoldLeaves : List ℕ → List ℕ → Left → Type 0
+FoldLeaves s out l = (w : Written) × IsFold s out w × (l ≡ leftOf w)
 
 -- trevozhil_unfold, with a lent buffer
 abbrev pub UnfoldLeaves : List ℕ → List ℕ → Left → Type 0

@@ -3,7 +3,7 @@ ghost use mathlib.Core.Path.{_≡_};
 ghost use mathlib.Core.Bool.{cond};
 ghost use Rattle.fields.specs.Verdicts.{refusalOf, verdictOn, answered};
 ghost use Rattle.handed.specs.Handed.{numbers};
-ghost use Rattle.trevozhil.specs.Said.{said, saidOf, left, yesOf, measure, measureOf, JudgeSays, NumbersSay, WriteLeaves, PlanLeaves, UnfoldLeaves, PeriodSays, RightSays, MarginLeaves};
+ghost use Rattle.trevozhil.specs.Said.{said, saidOf, left, yesOf, measure, measureOf, JudgeSays, NumbersSay, WriteLeaves, PlanLeaves, FoldLeaves, UnfoldLeaves, PeriodSays, RightSays, MarginLeaves};
 ghost use Rattle.questions.specs.Questions as questions;
 use fields::Answer;
 use fields::Refusal;
@@ -180,6 +180,15 @@ pub extern "C" fn trevozhil_plan(s: &[u8], out: &mut [u8], a: &mut u64, b: &mut 
     ensures { λ r. ⌜ PlanLeaves (now (s .entry)) (now (out .entry)) (left (said r (now (a .exit)) (now (b .exit))) (now (out .exit))) ⌝ }
 {
     let answer = planner::plan(s, out);
+    tell(answer_said(answer), a, b)
+}
+
+// The text that the program `fold` prints for a table.
+#[no_mangle]
+pub extern "C" fn trevozhil_fold(s: &[u8], out: &mut [u8], a: &mut u64, b: &mut u64) -> u32
+    ensures { λ r. ⌜ FoldLeaves (now (s .entry)) (now (out .entry)) (left (said r (now (a .exit)) (now (b .exit))) (now (out .exit))) ⌝ }
+{
+    let answer = planner::fold(s, out);
     tell(answer_said(answer), a, b)
 }
 
