@@ -5,7 +5,6 @@ use mathlib.Core.Path.{_≡_, refl, sym, ap, subst⁻¹, _∙_}
 use mathlib.Core.List.{List, [], _∷_, _++_, append-assoc, append-nil}
 use native.Mathlib.Decide.{decLt}
 use native.Mathlib.Omega.{arith}
-use lib.Dec.{ltb}
 use lib.ListN.{length, getD, length-append}
 use borrow.Author.Tests.{lt-ltb, le-ltb}
 use Rattle.rules.specs.Rows.{Row}
@@ -136,6 +135,26 @@ decimal-front =
     by-digits (λ n ds. getD ds 0 0 ≡ 48 → n ≡ 0) (λ n h e. omega arith)
     (λ n h front e. let none = front (sym (first-kept (decimal (n / 10)) (48 + n % 10) (decimal-some (n / 10))) ∙ e) in omega arith)
 
+-- so there is no other such row of digits: one that does not begin with 0 is that of the number it is read as
+value-more : (v : ℕ) (ds : List ℕ) → 1 ≤ v → All Digit ds → decimal (valueFrom v ds) ≡ decimal v ++ ds
+unfolding valueFrom All
+value-more v [] h all = sym (append-nil (decimal v))
+value-more v (d ∷ ds) h (digit, all) =
+    let n = v * 10 + (d - 48) in
+    let high : n / 10 ≡ v = omega arith in
+    let low : 48 + n % 10 ≡ d = omega arith in
+    let front : decimal n ≡ decimal v ++ (d ∷ []) = decimal-more n (omega arith) ∙ rw (high, low) in
+    value-more n ds (omega arith) all
+    ∙ ap (λ (l : List ℕ). l ++ ds) front
+    ∙ append-assoc (decimal v) (d ∷ []) ds
+
+pub decimal-only : (d : ℕ) (ds : List ℕ) → 49 ≤ d → d ≤ 57 → All Digit ds → decimal (valueOf (d ∷ ds)) ≡ d ∷ ds
+unfolding valueOf
+decimal-only d ds low high all =
+    let same : 48 + (0 * 10 + (d - 48)) ≡ d = omega arith in
+    value-more (0 * 10 + (d - 48)) ds (omega arith) all
+    ∙ rw (decimal-small (0 * 10 + (d - 48)) (omega arith), same)
+
 -- ---- the lines: words, each with a number behind it, and how long they are
 
 by-pairs : (a b c d e f g : List ℕ) → a ++ b ++ c ++ d ++ e ++ f ++ g ≡ a ++ b ++ (c ++ d) ++ (e ++ f) ++ g
@@ -151,7 +170,7 @@ pub row-line : (i : ℕ) (r : Row)
     → rowLine i r ≡ opWord ++ decimal i ++ (startWord ++ decimal (r .start .number)) ++ (fstWord ++ decimal (r .fst .number)) ++ newline
 row-line i r = row-open i r ∙ by-pairs opWord (decimal i) startWord (decimal (r .start .number)) fstWord (decimal (r .fst .number)) newline
 
-pub row-length : (i : ℕ) (r : Row)
+row-length : (i : ℕ) (r : Row)
     → length (rowLine i r) ≡ 16 + length (decimal i) + length (decimal (r .start .number)) + length (decimal (r .fst .number))
 row-length i r = omega (arith, simp length-append at (ap length (row-open i r)))
 
@@ -169,7 +188,7 @@ refused-open n a b = refl
 pub refused-line : (n a b : ℕ) → refusedLine n a b ≡ refusedWord ++ decimal n ++ (space ++ decimal a) ++ (space ++ decimal b) ++ newline
 refused-line n a b = refused-open n a b ∙ by-pairs refusedWord (decimal n) space (decimal a) space (decimal b) newline
 
-pub refused-length : (n a b : ℕ) → length (refusedLine n a b) ≡ 11 + length (decimal n) + length (decimal a) + length (decimal b)
+refused-length : (n a b : ℕ) → length (refusedLine n a b) ≡ 11 + length (decimal n) + length (decimal a) + length (decimal b)
 refused-length n a b = omega (arith, simp length-append at (ap length (refused-open n a b)))
 
 -- numbers of at most 20 digits, as those of 64 bits

@@ -60,7 +60,9 @@ put-decimal-returns : (t : ℕ) → put-decimal-lts.Need-returns (
   put-decimal.Post,
 ) (put-decimal-at t) put-decimal.Post
 put-decimal-returns t c =
-    let a = c .before .before .args in digit-only (a .out .now) (a .at) (a .n) (c .if1 .taken)
+    let a = c .before .before .args in
+    let small : a .n < 10 = omega arith in
+    digit-only (a .out .now) (a .at) (a .n) small
 
 put-decimal-put-decimal-requires : (t : ℕ) → put-decimal-lts.Need-put-decimal-requires (
   put-decimal-below t,
