@@ -21,6 +21,7 @@ use Rattle.rules.specs.Rows.{ticks, replyOf, startsOf, margin}
 use Rattle.rules.specs.Verdicts.{Verdict, accepted, refused, Test}
 use Rattle.rules.specs.Bytes.{tableBytes, longestTable, joined, replyBytes, startsBytes}
 use Rattle.rules.specs.Judge.{judge, judgeNumbers, judgeReply}
+use Rattle.rules.specs.Text.{replyText, textOf}
 use Rattle.rules.specs.Answers.{put, written, bytesOf, IsUnfold, marginTest}
 use Rattle.rules.specs.Bench.{opn, oneMode, k1, k1-bytes, k2, k3, k4, k5, k6, k7, k8, k9, k10, k10-touching, row}
 
@@ -472,6 +473,20 @@ k1-unfolded = refl
 pub kept : written (refused 4 22 0) (replicate 3 9) ≡ record { answer = refused 4 22 0; buffer = replicate 3 9 }
 unfolding written
 kept = refl
+
+-- the text of K2's reply: "Period 2; fst 0, 1, 2, folded starts 0."
+pub k2-text : replyText (replyOf k2 2)
+    ≡ 112 ∷ 101 ∷ 114 ∷ 105 ∷ 111 ∷ 100 ∷ 32 ∷ 50 ∷ 10
+    ∷ 111 ∷ 112 ∷ 32 ∷ 48 ∷ 32 ∷ 115 ∷ 116 ∷ 97 ∷ 114 ∷ 116 ∷ 32 ∷ 48 ∷ 32 ∷ 102 ∷ 115 ∷ 116 ∷ 32 ∷ 48 ∷ 10
+    ∷ 111 ∷ 112 ∷ 32 ∷ 49 ∷ 32 ∷ 115 ∷ 116 ∷ 97 ∷ 114 ∷ 116 ∷ 32 ∷ 48 ∷ 32 ∷ 102 ∷ 115 ∷ 116 ∷ 32 ∷ 49 ∷ 10
+    ∷ 111 ∷ 112 ∷ 32 ∷ 50 ∷ 32 ∷ 115 ∷ 116 ∷ 97 ∷ 114 ∷ 116 ∷ 32 ∷ 48 ∷ 32 ∷ 102 ∷ 115 ∷ 116 ∷ 32 ∷ 50 ∷ 10 ∷ []
+unfolding replyText replyOf
+k2-text = refl
+
+-- the line of "the operation .. 33 times: refused 5 694 0"
+pub many-text : textOf (refused 5 694 0) ≡ 114 ∷ 101 ∷ 102 ∷ 117 ∷ 115 ∷ 101 ∷ 100 ∷ 32 ∷ 53 ∷ 32 ∷ 54 ∷ 57 ∷ 52 ∷ 32 ∷ 48 ∷ 10 ∷ []
+unfolding textOf
+many-text = refl
 
 -- ---- questions about K1: "i, j, n, q, places 0 to 3"
 ask : ℕ → ℕ → ℕ → ℕ → Test

@@ -230,8 +230,3 @@ pub k1-text : textOf (planOf k1-bytes)
     ∷ 111 ∷ 112 ∷ 32 ∷ 48 ∷ 32 ∷ 115 ∷ 116 ∷ 97 ∷ 114 ∷ 116 ∷ 32 ∷ 49 ∷ 32 ∷ 102 ∷ 115 ∷ 116 ∷ 32 ∷ 48 ∷ 10 ∷ []
 unfolding textOf planOf k1-bytes
 k1-text = refl
-
--- "K1 with duration 5: refused 4 22 0"
-pub range-text : textOf (refused 4 22 0) ≡ 114 ∷ 101 ∷ 102 ∷ 117 ∷ 115 ∷ 101 ∷ 100 ∷ 32 ∷ 52 ∷ 32 ∷ 50 ∷ 50 ∷ 32 ∷ 48 ∷ 10 ∷ []
-unfolding textOf
-range-text = refl
