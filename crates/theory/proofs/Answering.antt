@@ -158,15 +158,15 @@ put-refused bytes out n a b e = go (decLt (length out) (length bytes))
     go (yes h) = ap (λ (w : Written). w .buffer) (put-short bytes out h)
     go (no h) = never-refused (sym e ∙ ap (λ (w : Written). w .answer) (put-room bytes out (omega arith)))
 
--- and as many bytes as are told stand in it
-put-count : (bytes out : List ℕ) (n : ℕ) → put bytes out .answer ≡ accepted n → n ≤ length (put bytes out .buffer)
-put-count bytes out n e = go (decLt (length out) (length bytes))
+-- as many bytes as are told stand in the buffer
+pub put-count : (bytes out : List ℕ) (w : Written) (n : ℕ) → w ≡ put bytes out → w .answer ≡ accepted n → n ≤ length (w .buffer)
+put-count bytes out w n e told = go (decLt (length out) (length bytes))
   where
-    go : Dec (length out < length bytes) → n ≤ length (put bytes out .buffer)
-    go (yes h) = never-refused (sym (ap (λ (w : Written). w .answer) (put-short bytes out h)) ∙ e)
+    go : Dec (length out < length bytes) → n ≤ length (w .buffer)
+    go (yes h) = never-refused (sym (ap (λ (x : Written). x .answer) (e ∙ put-short bytes out h)) ∙ told)
     go (no h) =
-        let room = put-room bytes out (omega arith) in
-        let count : n ≡ length bytes = cc (e, ap (λ (w : Written). w .answer) room) in
+        let room = e ∙ put-room bytes out (omega arith) in
+        let count : n ≡ length bytes = cc (told, ap (λ (x : Written). x .answer) room) in
         rw room (omega (arith, length-append bytes (drop (length bytes) out)))
 
 -- demand 1: "A refusal gives its number and two figures .., and the reply buffer keeps each byte it had", whatever was to be written
@@ -199,10 +199,6 @@ write-keeps N out w n a b e no-table = rw e (refusal-keeps _ out n a b (rw e at 
 
 pub fold-keeps : (s out : List ℕ) (w : Written) (n a b : ℕ) → IsFold s out w → w .answer ≡ refused n a b → w .buffer ≡ out
 fold-keeps s out w n a b (v, r, e) no-text = rw e (put-refused (textOf v) out n a b (rw e at no-text))
-
--- the text that is told stands in the buffer
-pub fold-count : (s out : List ℕ) (w : Written) (n : ℕ) → IsFold s out w → w .answer ≡ accepted n → n ≤ length (w .buffer)
-fold-count s out w n (v, r, e) told = rw e (put-count (textOf v) out n (rw e at told))
 
 pub plan-length : (s out : List ℕ) (w : Written) → IsPlan s out w → length (w .buffer) ≡ length out
 plan-length s out w (v, r, e) = rw e (written-length _ out)
