@@ -33,7 +33,9 @@ smallest-requires c κs = search needs
 put-reply-requires : tie.Need-put-reply-requires
 put-reply-requires c κs =
     let found = c .before .smallest .ensures in
-    (c .before .before .before .before .before .pre, found .low, found .high, c .before .before .if1 .left)
+    let good = c .before .before .before .before .before .pre in
+    let some = good .accepted .len-low in
+    (good, omega (arith, found .low, some), omega (arith, found .high, some), c .before .before .if1 .left)
 
 same-length : tie.Need-same-length
 same-length c = search needs
