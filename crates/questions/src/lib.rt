@@ -85,10 +85,11 @@ fn right_of(t: Table, q: u64) -> Said
     requires { ⌜ Good t ⌝ }
     ensures { λ r. ⌜ Answers (RightSaid q) (periodAsked (tableOf t) q 0 then accepted (tableOf t)) (saidOf r) ⌝ }
 {
+    let len = t.len as u64;
     if q < 1 {
         return Said::Denied(Refusal::Ask(0));
     }
-    if (t.len as u64) < q {
+    if len < q {
         return Said::Denied(Refusal::Ask(0));
     }
     Said::Right(period::is_right(t, q as u32))

@@ -13,15 +13,15 @@ use borrow.Author.Needs.{needs}
 use Rattle.questions.proofs.right_of.Statement.{statement}
 use Rattle.questions.proofs.right_of.Tie as tie
 
+cast-len : tie.Need-cast-len
+cast-len c = search needs
+
 returns : tie.Need-returns
 unfolding Answers
 returns c =
-    let a = c .before .args in
+    let a = c .before .before .args in
     let e = then-refuses (accepted (tableOf (a .t))) (period-low (tableOf (a .t)) (a .q) 0 (c .if1 .taken)) in
     subst⁻¹ (λ (u : Verdict Table). Answers (RightSaid (a .q)) u (refused ASK 0 0)) e refl
-
-cast-if2 : tie.Need-cast-if2
-cast-if2 c = search needs
 
 returns-2 : tie.Need-returns-2
 unfolding Answers
@@ -49,4 +49,4 @@ returns-3 c =
 
 pub right-of-spec : {M : Type 1} → statement M
 right-of-spec =
-    tie.close (tie.spec returns cast-if2 returns-2 cast-is-right is-right-requires returns-3)
+    tie.close (tie.spec cast-len returns returns-2 cast-is-right is-right-requires returns-3)
