@@ -1,28 +1,20 @@
--- Laws of the whole judgement of numbers, and of what is written then.
+-- Laws of the whole judgement of numbers.
 -- Assumes nothing.
-use Prim.Native.Nat.{ℕ}
 use mathlib.Core.Path.{_≡_, refl, sym, ap, _∙_}
-use mathlib.Core.List.{List}
-use native.Mathlib.Omega.{arith}
 use lib.ListN.{length}
 use Rattle.rules.specs.Table.{Table}
-use Rattle.rules.specs.Table as rules
 use Rattle.rules.specs.Verdicts.{Verdict, accepted, refused, _then_, onwards}
-use Rattle.rules.specs.Bytes.{tableBytes}
 use Rattle.rules.specs.Judge.{Numbers, headOfNumbers, withOps, opsPlace, opsOfNumbers, numbersTest, judgeNumbers, judgeWhole}
-use Rattle.rules.specs.Answers.{Written, IsWrite, written, bytesOf, put}
 use Rattle.theory.proofs.Verdicts.{then-first, then-rest, onwards-accepts, onwards-first}
-use Rattle.theory.proofs.Judging.{numbers-accepted}
 use Rattle.fields.specs.Verdicts.{refusalOf}
 use Rattle.fields.specs.declared.Refusal.{Refusal}
-use Rattle.fields.specs.declared.Verdict.the-variants.{Accepted, Refused}
+use Rattle.fields.specs.declared.Verdict.the-variants.{Refused}
 use Rattle.table.specs.Tables.{JudgedAs, tableOf, tableIn}
 use Rattle.table.specs.declared.Table as code
 use Rattle.table.specs.declared.Judged.{Judged}
 use Rattle.handed.specs.Handed.{opsVerdict, numbersVerdict}
 use Rattle.table.specs.JudgedLaws.{refusal-is, Took, took-back, judged-refused}
 use Rattle.handed.specs.HeadLaws.{test-small}
-use Rattle.handed.specs.Writing.{Writable}
 
 -- ---- the judgement of the numbers is that of the fields, and then that of the pairs
 then-onwards : {A B C D : Type 0} (t : Verdict A) (v : Verdict B) (f : B → C) (g : C → Verdict D)
@@ -64,21 +56,3 @@ module _ (N : Numbers) {t : code.Table} (took : Took (numbersVerdict N) t) where
 
   pub took-judged : judgeNumbers N ≡ judgeWhole (tableOf t)
   took-judged = numbers-pairs N ∙ onwards-accepts judgeWhole (took .said) ∙ ap judgeWhole (sym took-table)
-
--- ---- what is written
-
-module _ (N : Numbers) {t : code.Table} (took : Took (judgeNumbers N) t) where
-  abbrev fine : rules.Accepted (took .table)
-  fine = numbers-accepted N (took .table) (took .said)
-
-  pub took-writable : Writable t
-  took-writable = rw (took .held) (record { boards = omega (arith, fine .boards-high); cells = omega (arith, fine .cells-high); modes = fine .modes-high; count = fine .ops-high })
-
-  pub took-written : (out : List ℕ) {w : Written} → w ≡ put (tableBytes (tableOf t)) out → IsWrite N out w
-  unfolding written bytesOf onwards
-  took-written out e = rw (took .said, ← took-back took (fine .words)) e
-
-pub refused-written : (N : Numbers) (q : Refusal) (out : List ℕ) → judgeNumbers N ≡ refusalOf q
-    → IsWrite N out (record { answer = refusalOf q; buffer = out })
-unfolding written bytesOf onwards
-refused-written N q out e = let (n, a, b, x, y) = refusal-is {A = Table} {B = ℕ} q in rw (e ∙ x, y)

@@ -100,5 +100,5 @@ pub fn write_table(
 ) -> Answer
     ensures { λ r. ⌜ IsWrite (numbers p boards cells modes first (now (follow .entry)) (now (ops .entry))) (now (out .entry)) (left (answered r) (now (out .exit))) ⌝ }
 {
-    handed::write(p, boards, cells, modes, first, follow, ops, out)
+    writing::write(p, boards, cells, modes, first, follow, ops, out)
 }

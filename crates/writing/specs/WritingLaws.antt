@@ -11,7 +11,7 @@ use Rattle.rules.specs.Judge.{opsPlace}
 use Rattle.theory.proofs.Bytes.{headBytes, words-length, head-length, table-length}
 use Rattle.table.specs.Tables.{opOf, tableOf}
 use Rattle.table.specs.declared.Table.{Table}
-use Rattle.handed.specs.Writing.{bytesOfOp, sizeOf}
+use Rattle.writing.specs.Writing.{bytesOfOp, sizeOf}
 
 -- the operations' bytes by the code's operations
 joined-map : {A B : Type 0} (f : B → List ℕ) (g : A → B) (xs : List A) → joined f (map g xs) ≡ joined (λ x. f (g x)) xs

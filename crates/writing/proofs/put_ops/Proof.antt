@@ -10,9 +10,9 @@ use Rattle.rules.specs.Judge.{opsPlace}
 use Rattle.puts.specs.Puts.{stored}
 use Rattle.puts.specs.PutLaws.{stored-length, stored-turn}
 use Rattle.table.specs.Tables.{noOp}
-use Rattle.handed.specs.Writing.{bytesOfOp}
-use Rattle.handed.proofs.put_ops.Statement.{statement}
-use Rattle.handed.proofs.put_ops.Tie as tie
+use Rattle.writing.specs.Writing.{bytesOfOp}
+use Rattle.writing.proofs.put_ops.Statement.{statement}
+use Rattle.writing.proofs.put_ops.Tie as tie
 
 abbrev Inv-loop : tie.InvT-loop
 Inv-loop out₀ t at count i₀ out i =

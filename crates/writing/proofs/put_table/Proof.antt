@@ -11,9 +11,9 @@ use Rattle.rules.specs.Bytes.{tableBytes}
 use Rattle.table.specs.Tables.{tableOf}
 use Rattle.puts.specs.Puts.{stored}
 use Rattle.puts.specs.PutLaws.{stored-then, stored-front}
-use Rattle.handed.specs.WritingLaws.{head-size, table-size, table-parts}
-use Rattle.handed.proofs.put_table.Statement.{statement}
-use Rattle.handed.proofs.put_table.Tie as tie
+use Rattle.writing.specs.WritingLaws.{head-size, table-size, table-parts}
+use Rattle.writing.proofs.put_table.Statement.{statement}
+use Rattle.writing.proofs.put_table.Tie as tie
 
 put-head-requires : tie.Need-put-head-requires
 put-head-requires c κs = search needs

@@ -2,9 +2,9 @@
 -- Assumes nothing.
 use borrow.Author.Needs.{needs}
 use Rattle.table.specs.JudgedLaws.{judged-accepted, judged-refused}
-use Rattle.handed.specs.JudgeLaws.{took-writable, took-written, refused-written}
-use Rattle.handed.proofs.write.Statement.{statement}
-use Rattle.handed.proofs.write.Tie as tie
+use Rattle.writing.specs.WrittenLaws.{took-writable, took-written, refused-written}
+use Rattle.writing.proofs.write.Statement.{statement}
+use Rattle.writing.proofs.write.Tie as tie
 
 judge-requires : tie.Need-judge-requires
 judge-requires c κs = search needs

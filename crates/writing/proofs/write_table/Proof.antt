@@ -9,9 +9,9 @@ use borrow.Author.Needs.{needs}
 use Rattle.rules.specs.Bytes.{tableBytes}
 use Rattle.theory.proofs.Answering.{put-room, put-short}
 use Rattle.table.specs.Tables.{tableOf}
-use Rattle.handed.specs.WritingLaws.{table-size}
-use Rattle.handed.proofs.write_table.Statement.{statement}
-use Rattle.handed.proofs.write_table.Tie as tie
+use Rattle.writing.specs.WritingLaws.{table-size}
+use Rattle.writing.proofs.write_table.Statement.{statement}
+use Rattle.writing.proofs.write_table.Tie as tie
 
 cast-size : tie.Need-cast-size
 cast-size c = search needs
