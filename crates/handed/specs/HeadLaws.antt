@@ -20,7 +20,7 @@ use Rattle.theory.proofs.Judging.{says-set, says-each-set, says-counts}
 use Rattle.fields.specs.FieldLaws.{ranged-no, ranged-yes}
 use Rattle.fields.specs.Verdicts.{refusalOf}
 use Rattle.fields.specs.declared.Refusal.{Refusal}
-use Rattle.pairs.specs.Whole.{then-refusal}
+use Rattle.fields.specs.RefusalLaws.{then-refusal}
 use Rattle.handed.specs.Handed.{opsVerdict, numbersVerdict, SmallCounts, Small}
 
 -- ---- what stands before the operations
