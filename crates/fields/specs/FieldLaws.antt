@@ -71,14 +71,10 @@ module _ (s : List ℕ) (at : ℕ) where
   unfolding complete
   complete-yes size h = passes _ SHORT at 0 (le-ltb (length s) (at + 3 + size) h)
 
--- the range tests
+-- the range test
 pub ranged-no : (ok : Bool) (at : ℕ) → ok ≡ false → ranged ok at ≡ refused RANGE at 0
 unfolding ranged
 ranged-no ok at h = refuses _ RANGE at 0 (ap not h)
-
-pub ranged-yes : (ok : Bool) (at : ℕ) → ok ≡ true → ranged ok at ≡ accepted tt
-unfolding ranged
-ranged-yes ok at h = passes _ RANGE at 0 (ap not h)
 
 -- ---- the whole row is these tests and then the ranges
 module _ (s : List ℕ) (at tag size : ℕ) (ok : Bool) where

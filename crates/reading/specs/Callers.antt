@@ -7,7 +7,7 @@ use native.Mathlib.Omega.{arith}
 use lib.ListN.{length}
 use Rattle.rules.specs.Table as rules
 use Rattle.rules.specs.Table.{nops, noOp}
-use Rattle.rules.specs.Verdicts.{Verdict, accepted, refused, _then_, onwards}
+use Rattle.rules.specs.Verdicts.{accepted, onwards}
 use Rattle.rules.specs.Bytes.{opAt}
 use Rattle.rules.specs.Judge.{opOk, headOf, withOps, opsPlace, headTest, opsFrom, judgeWhole, judge}
 use Rattle.theory.proofs.Verdicts.{then-first, then-rest, then-onwards, onwards-accepts, onwards-first}

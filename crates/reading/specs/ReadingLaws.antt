@@ -12,6 +12,7 @@ use Rattle.rules.specs.Verdicts.{Verdict, accepted, refused, RANGE, Test, _then
 use Rattle.rules.specs.Bytes.{num8, opAt}
 use Rattle.rules.specs.Judge.{needed, ranged, fieldTest, repeatTest, opOk, headOf, headTest, withOps, opsPlace, opsFrom, fieldsFrom}
 use Rattle.theory.proofs.Verdicts.{then-accepts, then-refuses, then-first, onwards-accepts}
+use Rattle.theory.proofs.Bytes.{ranged-yes}
 use Rattle.theory.proofs.Judging.{says-counts, field-passed, head-row, head-ok, fields-end, fields-next}
 use Rattle.fields.specs.declared.Refusal.{Refusal}
 use Rattle.fields.specs.declared.Verdict as code
@@ -19,7 +20,7 @@ use Rattle.fields.specs.declared.Verdict.the-variants.{Accepted, Refused}
 use Rattle.fields.specs.Verdicts.{refusalOf, tested}
 use Rattle.fields.specs.RefusalLaws.{then-refusal, onwards-refusal}
 use Rattle.fields.specs.Fields.{fieldOf, repeatOf}
-use Rattle.fields.specs.FieldLaws.{field-split, repeat-split, repeat-passed, ranged-no, ranged-yes}
+use Rattle.fields.specs.FieldLaws.{field-split, repeat-split, repeat-passed, ranged-no}
 use Rattle.table.specs.declared.Op.{Op}
 use Rattle.table.specs.declared.Table.{Table}
 use Rattle.table.specs.Tables.{opOf, counted, tableOf, tableIn, noTable, withOp, JudgedAs}

@@ -2,15 +2,15 @@
 -- Assumes nothing.
 use Prim.Native.Nat.{ℕ, _+_, _-_, _*_, _/_, _<_, _≤_}
 use mathlib.Core.Path.{_≡_, refl, sym, ap, _∙_}
-use mathlib.Core.List.{List, [], _++_}
+use mathlib.Core.List.{List, _++_}
 use native.Mathlib.Omega.{arith}
 use lib.ListN.{length, getD, take, drop, length-map, List·getD-map}
 use lib.Seq.{take-all}
 use Rattle.rules.specs.Rows.{Ticks, Row, Reply, ticks, unfoldAt, startsOf}
 use Rattle.rules.specs.Verdicts.{Verdict, accepted, refused, ORDER, ROOM, Test, _then_, onwards, more}
 use Rattle.rules.specs.Bytes.{num16, be16, joined, rowAt, startsBytes}
-use Rattle.rules.specs.Judge.{lenOk, needed, fieldTest, repeatTest, rowOk, rowsFrom, judgeReply}
-use Rattle.rules.specs.Answers.{Written, put, written, bytesOf, IsUnfold}
+use Rattle.rules.specs.Judge.{needed, repeatTest, rowOk, rowsFrom, judgeReply}
+use Rattle.rules.specs.Answers.{Written, written, bytesOf, IsUnfold}
 use Rattle.theory.proofs.Verdicts.{then-accepts, then-refuses, onwards-accepts, onwards-first}
 use Rattle.theory.proofs.Replies.{ReplyIn, reply-row, reply-in}
 use Rattle.theory.proofs.Bytes.{joined-length}

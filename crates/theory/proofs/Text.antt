@@ -8,7 +8,6 @@ use native.Mathlib.Omega.{arith}
 use lib.ListN.{length, getD, length-append}
 use borrow.Author.Tests.{lt-ltb, le-ltb}
 use Rattle.rules.specs.Rows.{Row}
-use Rattle.rules.specs.Verdicts.{refused}
 use Rattle.rules.specs.Text.{digits, decimal, periodWord, opWord, startWord, fstWord, refusedWord, space, newline, rowLine, rowLines, periodLine, refusedLine, textOf}
 use Rattle.rules.specs.Bench.{All, k1-bytes}
 use Rattle.theory.specs.Tests.{planOf}

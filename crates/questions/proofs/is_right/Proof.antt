@@ -1,6 +1,6 @@
 -- A refusal of the table is the answer; an accepted one is asked.
 -- Assumes nothing.
-use mathlib.Core.Path.{sym, subst}
+use mathlib.Core.Path.{subst}
 use Rattle.rules.specs.Judge.{judge}
 use Rattle.rules.specs.Verdicts.{Verdict, accepted, _then_}
 use Rattle.theory.proofs.Judging.{judge-accepted}
