@@ -6,13 +6,13 @@ use mathlib.Core.Bool.{Bool, true, false}
 use mathlib.Core.List.{List, [], _∷_, _++_, append-assoc, append-nil}
 use native.Mathlib.Omega.{arith}
 use lib.ListN.{length, length-append}
-use borrow.Author.Tests.{le-leb, lt-leb}
+use borrow.Author.Tests.{lt-leb}
 use Rattle.rules.specs.Table as rules
 use Rattle.rules.specs.Verdicts.{Verdict, accepted, refused, RANGE, Test, _then_, onwards, more}
 use Rattle.rules.specs.Bytes.{num8, opAt}
 use Rattle.rules.specs.Judge.{needed, ranged, fieldTest, repeatTest, opOk, headOf, headTest, withOps, opsPlace, opsFrom, fieldsFrom}
 use Rattle.theory.proofs.Verdicts.{then-accepts, then-refuses, then-first, onwards-accepts}
-use Rattle.theory.proofs.Bytes.{ranged-yes}
+use Rattle.theory.proofs.Bytes.{ranged-yes, no-field}
 use Rattle.theory.proofs.Judging.{says-counts, field-passed, head-row, head-ok, fields-end, fields-next}
 use Rattle.fields.specs.declared.Refusal.{Refusal}
 use Rattle.fields.specs.declared.Verdict as code
@@ -163,10 +163,6 @@ module _ (tag size : ℕ) {A : Type 0} (ok : A → Bool) (value : List ℕ → �
       repeat-passed s at tag size left
       (then-first (repeatOf s at left tag size) _ (sym (repeat-split s at tag size (ok (value s at)) left) ∙ e) .1)
 
-  pub from-end : (left at : ℕ) → length s ≤ at → fieldsFrom tag size ok value s left at ≡ accepted []
-  from-end zero at h = fields-end tag size ok value s at ∙ rw (le-leb (length s) at h)
-  from-end (suc left) at h = fields-next tag size ok value s left at ∙ rw (le-leb (length s) at h)
-
   -- the field at a place inside the input, and those behind it
   pub from-next : (left at : ℕ) → at < length s
       → fieldsFrom tag size ok value s left at
@@ -188,7 +184,7 @@ module _ (tag size : ℕ) {A : Type 0} (ok : A → Bool) (value : List ℕ → �
 module _ (T : rules.Table) (s : List ℕ) where
   ops-end : (left at : ℕ) → length s ≤ at → opsFrom T s left at ≡ accepted []
   unfolding opsFrom
-  ops-end = from-end 4 18 (opOk T) opAt s
+  ops-end left at = no-field 4 18 (opOk T) opAt s at left
 
   -- the operation at a place inside the input, and those behind it
   ops-next : (left at : ℕ) → at < length s

@@ -13,14 +13,14 @@ use Rattle.rules.specs.Judge.{needed, repeatTest, rowOk, rowsFrom, judgeReply}
 use Rattle.rules.specs.Answers.{Written, written, bytesOf, IsUnfold}
 use Rattle.theory.proofs.Verdicts.{then-accepts, then-refuses, onwards-accepts, onwards-first}
 use Rattle.theory.proofs.Replies.{ReplyIn, reply-row, reply-in}
-use Rattle.theory.proofs.Bytes.{joined-length}
+use Rattle.theory.proofs.Bytes.{joined-length, no-field}
 use Rattle.theory.proofs.Answering.{put-room, put-short}
 use Rattle.fields.specs.declared.Refusal.{Refusal}
 use Rattle.fields.specs.Verdicts.{refusalOf, left}
 use Rattle.fields.specs.RefusalLaws.{refusal-is, then-refusal, onwards-refusal, heard-refusal}
 use Rattle.fields.specs.FieldLaws.{needed-no, needed-yes}
 use Rattle.reading.specs.Reading.{lenTest}
-use Rattle.reading.specs.ReadingLaws.{repeat-whole, from-end, from-next}
+use Rattle.reading.specs.ReadingLaws.{repeat-whole, from-next}
 use Rattle.puts.specs.Puts.{stored}
 use Rattle.puts.specs.PutLaws.{stored-turn, stored-front}
 use Rattle.starts.specs.Starts.{heard, Unfolds, StartsStored}
@@ -39,7 +39,7 @@ module _ (q : ℕ) (s : List ℕ) (left at : ℕ) where
 
   pub rows-end : length s ≤ at → accepted tt ≡ heard (rowsFrom q s left at)
   unfolding heard rowsFrom onwards
-  rows-end h = sym (ap heard (from-end 18 4 (rowOk q) rowAt s left at h))
+  rows-end h = sym (ap heard (no-field 18 4 (rowOk q) rowAt s at left h))
 
   pub rows-bad : (r : Refusal) → at < length s → refusalOf r ≡ here → refusalOf r ≡ heard (rowsFrom q s left at)
   unfolding heard rowsFrom

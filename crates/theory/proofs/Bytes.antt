@@ -176,7 +176,8 @@ fields-accepted d size ok (x ∷ xs) (suc left) at few h =
     ∙ more-accepts x (fields-accepted d size ok xs left (at + 3 + size) (omega arith) (λ i b. h (suc i) (omega arith)))
 
 module _ {A : Type 0} (tag size : ℕ) (ok : A → Bool) (value : List ℕ → ℕ → A) (s : List ℕ) (at : ℕ) where
-  no-field : (left : ℕ) → length s ≤ at → fieldsFrom tag size ok value s left at ≡ accepted []
+  -- none at the end of the input
+  pub no-field : (left : ℕ) → length s ≤ at → fieldsFrom tag size ok value s left at ≡ accepted []
   unfolding fieldsFrom
   no-field zero h = rw (le-leb (length s) at h)
   no-field (suc left) h = rw (le-leb (length s) at h)
