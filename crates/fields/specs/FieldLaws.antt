@@ -1,17 +1,17 @@
 -- When each test of a field refuses and when it passes, and what the rows of tests come to.
 -- Assumes nothing.
 use Prim.Native.Nat.{ℕ, _+_, _<_, _≤_}
-use mathlib.Core.Path.{_≡_, refl, sym, ap, _∙_}
+use mathlib.Core.Path.{_≡_, sym, ap, _∙_}
 use mathlib.Core.Bool.{Bool, true, false, not}
 use mathlib.Core.List.{List}
 use native.Mathlib.Omega.{arith}
 use lib.Dec.{eqb}
 use lib.ListN.{length}
 use borrow.Author.Tests.{le-leb, lt-leb, lt-ltb, le-ltb, eq-eqb, ne-eqb, ltb-false, eqb-false}
-use Rattle.rules.specs.Verdicts.{Verdict, accepted, refused, SHORT, ORDER, SIZE, RANGE, MANY, _then_}
+use Rattle.rules.specs.Verdicts.{accepted, refused, SHORT, ORDER, SIZE, RANGE, MANY, _then_}
 use Rattle.rules.specs.Bytes.{num8, num16}
 use Rattle.rules.specs.Judge.{needed, header, due, notMany, sized, complete, ranged, fieldTest, repeatTest}
-use Rattle.theory.proofs.Verdicts.{passes, refuses, passed, then-accepts, then-refuses, then-first, then-rest}
+use Rattle.theory.proofs.Verdicts.{passes, refuses, passed, then-accepts, then-refuses, then-first, then-rest, then-assoc}
 use Rattle.theory.proofs.Judging.{field-row, repeat-row}
 use Rattle.fields.specs.Fields.{sizedOf, fieldOf, repeatOf}
 
@@ -71,21 +71,12 @@ module _ (s : List ℕ) (at : ℕ) where
   unfolding complete
   complete-yes size h = passes _ SHORT at 0 (le-ltb (length s) (at + 3 + size) h)
 
--- the range tests
+-- the range test
 pub ranged-no : (ok : Bool) (at : ℕ) → ok ≡ false → ranged ok at ≡ refused RANGE at 0
 unfolding ranged
 ranged-no ok at h = refuses _ RANGE at 0 (ap not h)
 
-pub ranged-yes : (ok : Bool) (at : ℕ) → ok ≡ true → ranged ok at ≡ accepted tt
-unfolding ranged
-ranged-yes ok at h = passes _ RANGE at 0 (ap not h)
-
 -- ---- the whole row is these tests and then the ranges
-then-assoc : {A B C : Type 0} (u : Verdict A) (v : Verdict B) (w : Verdict C) → ((u then v) then w) ≡ (u then (v then w))
-unfolding _then_
-then-assoc (accepted x) v w = refl
-then-assoc (refused n a b) v w = refl
-
 module _ (s : List ℕ) (at tag size : ℕ) (ok : Bool) where
   pub field-split : fieldTest s at tag size ok ≡ (fieldOf s at tag size then ranged ok at)
   unfolding fieldOf sizedOf

@@ -1,3 +1,4 @@
 pub mod Verdicts
+pub mod RefusalLaws
 pub mod Fields
 pub mod FieldLaws

@@ -17,10 +17,11 @@ use Rattle.rules.specs.Judge.{Numbers, headOfNumbers, ranged, lenOk, countsOk, 
 use Rattle.theory.proofs.Says.{says-leb, says-and}
 use Rattle.theory.proofs.Verdicts.{passes, refuses, passed, then-accepts, then-refuses, then-first, then-rest}
 use Rattle.theory.proofs.Judging.{says-set, says-each-set, says-counts}
-use Rattle.fields.specs.FieldLaws.{ranged-no, ranged-yes}
+use Rattle.theory.proofs.Bytes.{ranged-yes}
+use Rattle.fields.specs.FieldLaws.{ranged-no}
 use Rattle.fields.specs.Verdicts.{refusalOf}
 use Rattle.fields.specs.declared.Refusal.{Refusal}
-use Rattle.pairs.specs.Whole.{then-refusal}
+use Rattle.fields.specs.RefusalLaws.{then-refusal}
 use Rattle.handed.specs.Handed.{opsVerdict, numbersVerdict, SmallCounts, Small}
 
 -- ---- what stands before the operations

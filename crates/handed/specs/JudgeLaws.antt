@@ -13,7 +13,8 @@ use Rattle.table.specs.Tables.{JudgedAs, tableOf, tableIn}
 use Rattle.table.specs.declared.Table as code
 use Rattle.table.specs.declared.Judged.{Judged}
 use Rattle.handed.specs.Handed.{opsVerdict, numbersVerdict}
-use Rattle.table.specs.JudgedLaws.{refusal-is, Took, took-back, judged-refused}
+use Rattle.fields.specs.RefusalLaws.{refusal-is}
+use Rattle.table.specs.JudgedLaws.{Took, took-back, judged-refused}
 use Rattle.handed.specs.HeadLaws.{test-small}
 
 -- ---- the judgement of the numbers is that of the fields, and then that of the pairs

@@ -13,7 +13,8 @@ use Rattle.fields.specs.Verdicts.{refusalOf}
 use Rattle.fields.specs.declared.Refusal.{Refusal}
 use Rattle.table.specs.Tables.{opOf, tableOf, tableIn}
 use Rattle.table.specs.declared.Table as code
-use Rattle.pairs.specs.Whole.{wholeTest, whole-judged, then-refusal}
+use Rattle.fields.specs.RefusalLaws.{then-refusal}
+use Rattle.pairs.specs.Whole.{wholeTest, whole-judged}
 
 -- ---- the judgement of the pairs
 module _ (T : Table) where

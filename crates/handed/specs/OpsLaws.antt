@@ -13,14 +13,15 @@ use borrow.Author.Tests.{lt-ltb, le-ltb, eq-eqb, ne-eqb, ltb-false, eqb-false}
 use Rattle.rules.specs.Table.{Op, Table}
 use Rattle.rules.specs.Verdicts.{Verdict, accepted, refused, SHORT, MANY, refuseIf, _then_, onwards, more}
 use Rattle.rules.specs.Judge.{notMany, ranged, opOk, opOf, withOps, opsPlace, opsOfNumbers}
-use Rattle.theory.proofs.Verdicts.{passes, refuses, passed, then-accepts, then-refuses, then-first, then-rest}
+use Rattle.theory.proofs.Verdicts.{passes, refuses, passed, then-accepts, then-refuses, then-first, then-rest, then-assoc}
 use Rattle.fields.specs.Verdicts.{refusalOf}
 use Rattle.fields.specs.declared.Refusal.{Refusal}
 use Rattle.fields.specs.declared.Verdict.the-variants.{Accepted}
 use Rattle.table.specs.Tables.{JudgedAs, tableIn, opIn, withOp}
 use Rattle.table.specs.TableLaws.{with-op-in}
 use Rattle.table.specs.declared.Table as code
-use Rattle.table.specs.JudgedLaws.{refusal-is, granted}
+use Rattle.fields.specs.RefusalLaws.{refusal-is}
+use Rattle.table.specs.JudgedLaws.{granted}
 use Rattle.handed.specs.HeadLaws.{range-passed}
 use Rattle.handed.specs.Handed.{opThere, opTest, nextTest, opsBehind, opsVerdict, SmallCounts}
 
@@ -62,11 +63,6 @@ op-ready T ns at count place e =
     let some = positive (32 - count) (eqb-false _ 0 (passed _ MANY place 0 (then-first _ _ e .1))) in
     let whole = ltb-false (length (drop at ns)) 6 (passed _ SHORT place 0 (then-first _ _ rest .1)) in
     record { some = omega arith; whole = omega (arith, length-drop at ns); ranges = range-passed _ place (then-rest _ _ rest) }
-
-then-assoc : {A B C : Type 0} (u : Verdict A) (v : Verdict B) (w : Verdict C) → ((u then v) then w) ≡ (u then (v then w))
-unfolding _then_
-then-assoc (accepted x) v w = refl
-then-assoc (refused n a b) v w = refl
 
 -- ---- the operations, one after the other
 ops-row : (T : Table) (ns : List ℕ) (left at : ℕ)

@@ -19,7 +19,7 @@ use Rattle.theory.proofs.Exists.{period-found}
 use Rattle.theory.proofs.Answering.{put-room, put-short}
 use Rattle.fields.specs.Verdicts.{refusalOf, left}
 use Rattle.fields.specs.declared.Refusal.{Refusal}
-use Rattle.table.specs.JudgedLaws.{refusal-is}
+use Rattle.fields.specs.RefusalLaws.{refusal-is}
 
 -- the reply's bytes at the table's period, or ROOM
 abbrev pub Plans : Table → List ℕ → Written → Type 0

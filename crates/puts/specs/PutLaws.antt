@@ -6,7 +6,7 @@ use mathlib.Core.List.{List, [], _∷_, _++_, append-assoc, append-nil}
 use native.Mathlib.Nat.{zero-add}
 use native.Mathlib.Omega.{arith}
 use native.Mathlib.Numerals.{add-one}
-use lib.ListN.{length, getD, take, drop, set, length-append}
+use lib.ListN.{length, getD, take, drop, set}
 use lib.Seq.{sets, length-sets, sets-eq, take-suc, length-take-le}
 use Rattle.rules.specs.Bytes.{joined}
 use Rattle.theory.proofs.Bytes.{joined-length}

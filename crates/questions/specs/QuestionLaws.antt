@@ -10,9 +10,10 @@ use Rattle.rules.specs.Verdicts.{Verdict, accepted, refused, ASK, _then_, onwar
 use Rattle.rules.specs.Answers.{Answers, asked, periodAsked, marginTest}
 use Rattle.theory.proofs.Verdicts.{passes, refuses, then-accepts, then-refuses, onwards-accepts}
 use Rattle.fields.specs.Verdicts.{refusalOf}
+use Rattle.fields.specs.RefusalLaws.{refusal-is}
 use Rattle.fields.specs.declared.Refusal.{Refusal}
 use Rattle.table.specs.Tables.{tableOf}
-use Rattle.table.specs.JudgedLaws.{refusal-is, Took, took-table}
+use Rattle.table.specs.JudgedLaws.{Took, took-table}
 use Rattle.table.specs.declared.Table as code
 
 asked-no : (ok : Bool) (place : ℕ) → ok ≡ false → asked ok place ≡ refused ASK place 0
@@ -88,10 +89,6 @@ module _ {A : Type 0} (T : Table) (i j n q : ℕ) (w : Verdict A) where
 -- ---- from the verdict on the table to the answer
 
 -- a refusal of the table is the answer
-pub refused-on : {A : Type 0} {v : Verdict Table} (f : Table → Verdict A) (r : Refusal) → v ≡ refusalOf r → refusalOf r ≡ onwards v f
-unfolding onwards
-refused-on {A} {v} f r e = let (n, a, b, x, y) = refusal-is {A = A} {B = Table} r in rw (e, x, y)
-
 pub refused-answers : {A B : Type 0} (P : A → B → Type 0) {v : Verdict A} (r : Refusal) → v ≡ refusalOf r → Answers P v (refusalOf r)
 unfolding Answers
 refused-answers {A} {B} P r e = let (n, a, b, x, y) = refusal-is {A = A} {B = B} r in rw (e, x, y)

@@ -1,6 +1,6 @@
 -- Two answers that the promise of `read`, or of `handed::judge`, allows are equal: the verdict, its figures and every word of the table.
 -- Assumes nothing.
-use Prim.Native.Nat.{ℕ, zero, suc}
+use Prim.Native.Nat.{zero, suc}
 use mathlib.Core.Path.{_≡_, refl, sym, ap, _∙_}
 use Rattle.rules.specs.Table.{Table}
 use Rattle.rules.specs.Verdicts.{accepted, refused, Test}

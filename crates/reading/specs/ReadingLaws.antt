@@ -6,52 +6,30 @@ use mathlib.Core.Bool.{Bool, true, false}
 use mathlib.Core.List.{List, [], _∷_, _++_, append-assoc, append-nil}
 use native.Mathlib.Omega.{arith}
 use lib.ListN.{length, length-append}
-use borrow.Author.Tests.{le-leb, lt-leb}
+use borrow.Author.Tests.{lt-leb}
 use Rattle.rules.specs.Table as rules
-use Rattle.rules.specs.Verdicts.{Verdict, accepted, refused, SHORT, ORDER, SIZE, RANGE, MANY, CLASH, RACE, ROOM, ASK, Test, _then_, onwards, more}
+use Rattle.rules.specs.Verdicts.{Verdict, accepted, refused, RANGE, Test, _then_, onwards, more}
 use Rattle.rules.specs.Bytes.{num8, opAt}
 use Rattle.rules.specs.Judge.{needed, ranged, fieldTest, repeatTest, opOk, headOf, headTest, withOps, opsPlace, opsFrom, fieldsFrom}
 use Rattle.theory.proofs.Verdicts.{then-accepts, then-refuses, then-first, onwards-accepts}
+use Rattle.theory.proofs.Bytes.{ranged-yes, no-field}
 use Rattle.theory.proofs.Judging.{says-counts, field-passed, head-row, head-ok, fields-end, fields-next}
 use Rattle.fields.specs.declared.Refusal.{Refusal}
-use Rattle.fields.specs.declared.Refusal.the-variants.{Short, Order, Size, Range, Many, Clash, Race, Room, Ask}
 use Rattle.fields.specs.declared.Verdict as code
 use Rattle.fields.specs.declared.Verdict.the-variants.{Accepted, Refused}
 use Rattle.fields.specs.Verdicts.{refusalOf, tested}
+use Rattle.fields.specs.RefusalLaws.{then-refusal, onwards-refusal}
 use Rattle.fields.specs.Fields.{fieldOf, repeatOf}
-use Rattle.fields.specs.FieldLaws.{field-split, repeat-split, repeat-passed, ranged-no, ranged-yes}
+use Rattle.fields.specs.FieldLaws.{field-split, repeat-split, repeat-passed, ranged-no}
 use Rattle.table.specs.declared.Op.{Op}
 use Rattle.table.specs.declared.Table.{Table}
-use Rattle.table.specs.Tables.{opOf, counted, tableOf, tableIn, noTable, tableFor, withOp, JudgedAs}
+use Rattle.table.specs.Tables.{opOf, counted, tableOf, tableIn, noTable, withOp, JudgedAs}
 use Rattle.table.specs.TableLaws.{with-op-in}
+use Rattle.table.specs.JudgedLaws.{denied, granted}
 use Rattle.reading.specs.Reading.{lenTest, countsTest, modesTest, opVerdict, opsVerdict}
 use Rattle.reading.specs.WordLaws.{sets-first}
 
 -- ---- refusals
-
--- a refusal's number, a and b, whatever would have been accepted
-pub refusal : (A B : Type 0) (r : Refusal)
-    → (n : ℕ) × (a : ℕ) × (b : ℕ) × (refusalOf {A = A} r ≡ refused n a b) × (refusalOf {A = B} r ≡ refused n a b)
-refusal A B (Short at) = (SHORT, at, 0, refl, refl)
-refusal A B (Order at) = (ORDER, at, 0, refl, refl)
-refusal A B (Size at) = (SIZE, at, 0, refl, refl)
-refusal A B (Range at) = (RANGE, at, 0, refl, refl)
-refusal A B (Many at) = (MANY, at, 0, refl, refl)
-refusal A B (Clash i j) = (CLASH, i, j, refl, refl)
-refusal A B (Race i j) = (RACE, i, j, refl, refl)
-refusal A B (Room n) = (ROOM, n, 0, refl, refl)
-refusal A B (Ask place) = (ASK, place, 0, refl, refl)
-
--- a refusal stays one whatever comes behind it
-pub refusal-then : {A B : Type 0} (r : Refusal) {v : Verdict A} (w : Verdict B) → refusalOf r ≡ v → refusalOf r ≡ (v then w)
-refusal-then {A} {B} r w e = let (n, a, b, x, y) = refusal A B r in y ∙ sym (then-refuses w (sym e ∙ x))
-
-onwards-refuses : {A B : Type 0} {v : Verdict A} (f : A → Verdict B) {n a b : ℕ} → v ≡ refused n a b → onwards v f ≡ refused n a b
-unfolding onwards
-onwards-refuses f e = rw e
-
-pub refusal-onwards : {A B : Type 0} (r : Refusal) {v : Verdict A} (f : A → Verdict B) → refusalOf r ≡ v → refusalOf r ≡ onwards v f
-refusal-onwards {A} {B} r f e = let (n, a, b, x, y) = refusal A B r in y ∙ sym (onwards-refuses f (sym e ∙ x))
 
 -- a test of the code that passes, and one that refuses
 module _ {v : code.Verdict} {w : Test} (e : tested v ≡ w) where
@@ -62,18 +40,16 @@ module _ {v : code.Verdict} {w : Test} (e : tested v ≡ w) where
   refused-as h = sym (ap tested h) ∙ e
 
 -- the code's answer to what is refused
-pub judged-refused : (r : Refusal) (v : Verdict rules.Table) {none : Table} → none ≡ noTable → refusalOf r ≡ v
+pub denied-as : (r : Refusal) (v : Verdict rules.Table) {none : Table} → none ≡ noTable → refusalOf r ≡ v
     → JudgedAs v (record { verdict = Refused r; table = none })
-judged-refused r v z e =
-    let (n, a, b, x, y) = refusal rules.Table (Unit {0}) r in
-    record { said = refusal-onwards r _ e; table = z ∙ sym (ap tableFor (sym e ∙ x)) }
+denied-as r v z e = rw (z, ← e) (denied r)
 
 -- ---- one field
 
 module _ (s : List ℕ) (at tag size : ℕ) (ok : Bool) where
   -- a field is refused where its tests before the ranges refuse
   pub field-bad : (r : Refusal) → refusalOf r ≡ fieldOf s at tag size → refusalOf r ≡ fieldTest s at tag size ok
-  field-bad r e = refusal-then r _ e ∙ sym (field-split s at tag size ok)
+  field-bad r e = sym (field-split s at tag size ok ∙ then-refusal r _ (sym e))
 
   -- and where they pass, the ranges decide
   pub field-ranged : (b : Bool) → accepted tt ≡ fieldOf s at tag size → b ≡ ok → ranged b at ≡ fieldTest s at tag size ok
@@ -81,7 +57,7 @@ module _ (s : List ℕ) (at tag size : ℕ) (ok : Bool) where
 
   -- likewise a field that may be repeated
   pub repeat-bad : (left : ℕ) (r : Refusal) → refusalOf r ≡ repeatOf s at left tag size → refusalOf r ≡ repeatTest s at left tag size ok
-  repeat-bad left r e = refusal-then r _ e ∙ sym (repeat-split s at tag size ok left)
+  repeat-bad left r e = sym (repeat-split s at tag size ok left ∙ then-refusal r _ (sym e))
 
   pub repeat-ranged : (left : ℕ) (b : Bool) → accepted tt ≡ repeatOf s at left tag size → b ≡ ok → ranged b at ≡ repeatTest s at left tag size ok
   repeat-ranged left b e h = ap (λ (x : Bool). ranged x at) h ∙ sym (repeat-split s at tag size ok left ∙ then-accepts _ (sym e))
@@ -98,7 +74,7 @@ module _ (T : rules.Table) (s : List ℕ) (left at : ℕ) where
 
   -- likewise an operation's field
   pub op-bad : (r : Refusal) → refusalOf r ≡ repeatOf s at left 4 18 → refusalOf r ≡ opVerdict T s left at
-  op-bad r e = refusal-then r _ (refusal-then r (ranged (opOk T (opAt s at)) at) e) ∙ sym op-split
+  op-bad r e = sym (op-split ∙ then-refusal r _ (then-refusal r (ranged (opOk T (opAt s at)) at) (sym e)))
 
   module _ (e : accepted tt ≡ repeatOf s at left 4 18) where
     op-first : (repeatOf s at left 4 18 then ranged (opOk T (opAt s at)) at) ≡ ranged (opOk T (opAt s at)) at
@@ -174,11 +150,11 @@ module _ {A : Type 0} where
   mores-more xs x (refused n a b) = refl
 
 -- a test, and what follows where it passes
-then-onwards : {A B : Type 0} (v : Test) (w : Verdict B) (x : A) (f : A → Verdict B) → (v ≡ accepted tt → w ≡ f x)
+test-onwards : {A B : Type 0} (v : Test) (w : Verdict B) (x : A) (f : A → Verdict B) → (v ≡ accepted tt → w ≡ f x)
     → (v then w) ≡ onwards (v then accepted x) f
 unfolding _then_ onwards
-then-onwards (accepted y) w x f e = e refl
-then-onwards (refused n a b) w x f e = refl
+test-onwards (accepted y) w x f e = e refl
+test-onwards (refused n a b) w x f e = refl
 
 module _ (tag size : ℕ) {A : Type 0} (ok : A → Bool) (value : List ℕ → ℕ → A) (s : List ℕ) where
   -- a repeated field that passes is whole, and was allowed to come
@@ -186,10 +162,6 @@ module _ (tag size : ℕ) {A : Type 0} (ok : A → Bool) (value : List ℕ → �
   repeat-whole left at e =
       repeat-passed s at tag size left
       (then-first (repeatOf s at left tag size) _ (sym (repeat-split s at tag size (ok (value s at)) left) ∙ e) .1)
-
-  pub from-end : (left at : ℕ) → length s ≤ at → fieldsFrom tag size ok value s left at ≡ accepted []
-  from-end zero at h = fields-end tag size ok value s at ∙ rw (le-leb (length s) at h)
-  from-end (suc left) at h = fields-next tag size ok value s left at ∙ rw (le-leb (length s) at h)
 
   -- the field at a place inside the input, and those behind it
   pub from-next : (left at : ℕ) → at < length s
@@ -199,20 +171,20 @@ module _ (tag size : ℕ) {A : Type 0} (ok : A → Bool) (value : List ℕ → �
   from-next zero at h =
       fields-end tag size ok value s at
       ∙ rw (lt-leb (length s) at h)
-      (then-onwards (repeatTest s at 0 tag size (ok (value s at))) (accepted []) (value s at) _ (λ e. absurd (repeat-whole 0 at e .1 refl)))
+      (test-onwards (repeatTest s at 0 tag size (ok (value s at))) (accepted []) (value s at) _ (λ e. absurd (repeat-whole 0 at e .1 refl)))
   from-next (suc left) at h =
       let p : at + 3 + size ≡ at + (3 + size) = omega arith in
       let l : suc left - 1 ≡ left = omega arith in
       fields-next tag size ok value s left at
       ∙ rw (lt-leb (length s) at h)
-      (then-onwards (repeatTest s at (suc left) tag size (ok (value s at))) _ (value s at)
+      (test-onwards (repeatTest s at (suc left) tag size (ok (value s at))) _ (value s at)
       (λ x. more x (fieldsFrom tag size ok value s (suc left - 1) (at + (3 + size))))
       (λ e. rw (l, p)))
 
 module _ (T : rules.Table) (s : List ℕ) where
   ops-end : (left at : ℕ) → length s ≤ at → opsFrom T s left at ≡ accepted []
   unfolding opsFrom
-  ops-end = from-end 4 18 (opOk T) opAt s
+  ops-end left at = no-field 4 18 (opOk T) opAt s at left
 
   -- the operation at a place inside the input, and those behind it
   ops-next : (left at : ℕ) → at < length s
@@ -260,8 +232,8 @@ module _ {s : List ℕ} {t : Table} {at : ℕ} (so : SoFar s t at) where
       → JudgedAs (opsVerdict s) (record { verdict = Refused r; table = none })
   unfolding opsVerdict mores
   so-bad r z h e =
-      let next = refusal-onwards r _ (e ∙ so-same) ∙ sym (ops-next (headOf s) s (32 - length (so .ops)) at h) in
-      judged-refused r _ z (refusal-onwards r _ (refusal-onwards r _ next ∙ sym (so .rest)))
+      let next = ops-next (headOf s) s (32 - length (so .ops)) at h ∙ onwards-refusal r _ (sym (e ∙ so-same)) in
+      denied-as r _ z (sym (onwards-refusal r _ (so .rest ∙ onwards-refusal r _ next)))
 
   -- one more operation
   pub so-more : (o : Op) → at < length s → accepted (opOf o) ≡ opVerdict (tableOf t) s (32 - t .count) at
@@ -296,5 +268,4 @@ module _ {s : List ℕ} {t : Table} {at : ℕ} (so : SoFar s t at) where
   so-end h =
       let os = so .ops in
       let read = so .rest ∙ onwards-accepts _ (ops-end (headOf s) s (32 - length os) at h) ∙ ap accepted (append-nil os) in
-      let whole : opsVerdict s ≡ accepted (withOps (headOf s) os) = onwards-accepts _ read in
-      record { said = sym (onwards-accepts _ whole); table = so .held ∙ sym (ap tableFor whole) }
+      granted (withOps (headOf s) os) (onwards-accepts _ read) (so .held)

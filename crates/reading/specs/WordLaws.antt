@@ -1,24 +1,19 @@
 -- Words of four bytes, one after the other: read from the front, and judged from the front.
 -- Assumes nothing.
 use Prim.Native.Nat.{ℕ, zero, suc, _+_, _-_, _*_, _<_}
-use mathlib.Core.Path.{_≡_, refl, sym, ap, _∙_}
+use mathlib.Core.Path.{_≡_, sym, ap, _∙_}
 use mathlib.Core.Bool.{true, _&&_}
 use mathlib.Core.List.{List, [], _∷_, _++_}
 use native.Mathlib.Omega.{arith}
 use native.Mathlib.Numerals.{add-one}
-use lib.ListN.{length, set}
+use lib.ListN.{set}
 use Rattle.rules.specs.Bytes.{num32, words}
 use Rattle.rules.specs.Judge.{setOk, eachSetOk}
+use Rattle.theory.proofs.Judging.{length-words}
 use Rattle.table.specs.Tables.{padded}
 use Rattle.table.specs.TableLaws.{set-padded}
 
 module _ (s : List ℕ) where
-  -- as many words as were asked for
-  pub length-words : (at n : ℕ) → length (words s at n) ≡ n
-  unfolding words
-  length-words at zero = refl
-  length-words at (suc n) = ap suc (length-words (at + 4) n)
-
   -- one word more
   words-snoc : (at n : ℕ) → words s at (suc n) ≡ words s at n ++ (num32 s (at + 4 * n) ∷ [])
   unfolding words
@@ -29,7 +24,7 @@ module _ (s : List ℕ) where
 
   pub words-more : (at m : ℕ) → m < 32 → set (padded 32 0 (words s at m)) m (num32 s (at + 4 * m)) ≡ padded 32 0 (words s at (m + 1))
   words-more at m h =
-      set-padded 32 0 (words s at m) (num32 s (at + 4 * m)) m (sym (length-words at m)) h ∙ rw (← words-snoc at m, add-one)
+      set-padded 32 0 (words s at m) (num32 s (at + 4 * m)) m (sym (length-words s at m)) h ∙ rw (← words-snoc at m, add-one)
 
   -- the sets from word m on, where m is 0, further, and at the end
   pub sets-all : (k at n m : ℕ) → m ≡ 0 → eachSetOk k (words s at n) ≡ eachSetOk k (words s (at + 4 * m) (n - m))

@@ -2,25 +2,25 @@
 -- Assumes nothing.
 use Prim.Native.Nat.{ℕ, _+_, _-_, _*_, _/_, _<_, _≤_}
 use mathlib.Core.Path.{_≡_, refl, sym, ap, _∙_}
-use mathlib.Core.List.{List, [], _++_}
+use mathlib.Core.List.{List, _++_}
 use native.Mathlib.Omega.{arith}
 use lib.ListN.{length, getD, take, drop, length-map, List·getD-map}
 use lib.Seq.{take-all}
 use Rattle.rules.specs.Rows.{Ticks, Row, Reply, ticks, unfoldAt, startsOf}
 use Rattle.rules.specs.Verdicts.{Verdict, accepted, refused, ORDER, ROOM, Test, _then_, onwards, more}
 use Rattle.rules.specs.Bytes.{num16, be16, joined, rowAt, startsBytes}
-use Rattle.rules.specs.Judge.{lenOk, needed, fieldTest, repeatTest, rowOk, rowsFrom, judgeReply}
-use Rattle.rules.specs.Answers.{Written, put, written, bytesOf, IsUnfold}
+use Rattle.rules.specs.Judge.{needed, repeatTest, rowOk, rowsFrom, judgeReply}
+use Rattle.rules.specs.Answers.{Written, written, bytesOf, IsUnfold}
 use Rattle.theory.proofs.Verdicts.{then-accepts, then-refuses, onwards-accepts, onwards-first}
 use Rattle.theory.proofs.Replies.{ReplyIn, reply-row, reply-in}
-use Rattle.theory.proofs.Bytes.{joined-length}
+use Rattle.theory.proofs.Bytes.{joined-length, no-field}
 use Rattle.theory.proofs.Answering.{put-room, put-short}
 use Rattle.fields.specs.declared.Refusal.{Refusal}
 use Rattle.fields.specs.Verdicts.{refusalOf, left}
+use Rattle.fields.specs.RefusalLaws.{refusal-is, then-refusal, onwards-refusal, heard-refusal}
 use Rattle.fields.specs.FieldLaws.{needed-no, needed-yes}
 use Rattle.reading.specs.Reading.{lenTest}
-use Rattle.reading.specs.Callers.{denied}
-use Rattle.reading.specs.ReadingLaws.{refusal, refusal-then, refusal-onwards, repeat-whole, from-end, from-next}
+use Rattle.reading.specs.ReadingLaws.{repeat-whole, from-next}
 use Rattle.puts.specs.Puts.{stored}
 use Rattle.puts.specs.PutLaws.{stored-turn, stored-front}
 use Rattle.starts.specs.Starts.{heard, Unfolds, StartsStored}
@@ -39,12 +39,12 @@ module _ (q : ℕ) (s : List ℕ) (left at : ℕ) where
 
   pub rows-end : length s ≤ at → accepted tt ≡ heard (rowsFrom q s left at)
   unfolding heard rowsFrom onwards
-  rows-end h = sym (ap heard (from-end 18 4 (rowOk q) rowAt s left at h))
+  rows-end h = sym (ap heard (no-field 18 4 (rowOk q) rowAt s at left h))
 
   pub rows-bad : (r : Refusal) → at < length s → refusalOf r ≡ here → refusalOf r ≡ heard (rowsFrom q s left at)
   unfolding heard rowsFrom
   rows-bad r h e =
-      refusal-onwards r _ (refusal-onwards r _ (refusal-then r (accepted (rowAt s at)) e) ∙ sym (from-next 18 4 (rowOk q) rowAt s left at h))
+      sym (onwards-refusal r _ (from-next 18 4 (rowOk q) rowAt s left at h ∙ onwards-refusal r _ (then-refusal r (accepted (rowAt s at)) (sym e))))
 
   pub rows-more : at < length s → accepted tt ≡ here
       → (at + 7 ≤ length s) × (left ≡ 0 → ⊥) × (heard (rowsFrom q s left at) ≡ heard (rowsFrom q s (left - 1) (at + 7)))
@@ -75,7 +75,7 @@ module _ (s : List ℕ) where
   reply-heard = ap heard (reply-row s) ∙ heard-then _ _ _
 
   pub period-bad : (r : Refusal) → refusalOf r ≡ lenTest 17 s → refusalOf r ≡ heard (judgeReply s)
-  period-bad r e = refusal-then r rows (refusal-then r (needed s 5) e) ∙ sym reply-heard
+  period-bad r e = sym (reply-heard ∙ then-refusal r rows (then-refusal r (needed s 5) (sym e)))
 
   module _ (len : accepted tt ≡ lenTest 17 s) where
     pub rows-missing : length s ≤ 5 → refused ORDER 5 0 ≡ heard (judgeReply s)
@@ -157,8 +157,8 @@ module _ (s out : List ℕ) where
   pub unfold-refused : (r : Refusal) → refusalOf r ≡ heard (judgeReply s) → IsUnfold s out (left (refusalOf r) out)
   unfolding heard written bytesOf onwards
   unfold-refused r e =
-      let (n, a, b, x, y) = refusal ℕ Reply r in
-      ap (λ (u : Verdict ℕ). left u out) x ∙ sym (ap (λ (v : Verdict Reply). written (bytesOf (λ R. startsBytes (startsOf R)) v) out) (denied (judgeReply s) r e ∙ y))
+      let (n, a, b, x, y) = refusal-is {A = ℕ} {B = Reply} r in
+      ap (λ (u : Verdict ℕ). left u out) x ∙ sym (ap (λ (v : Verdict Reply). written (bytesOf (λ R. startsBytes (startsOf R)) v) out) (heard-refusal (judgeReply s) r e ∙ y))
 
   -- the starts of an accepted reply are the answer
   pub unfold-accepted : (w : Written) → heard (judgeReply s) ≡ accepted tt → Unfolds s out w → IsUnfold s out w

@@ -4,7 +4,7 @@ use Prim.Native.Nat.{ℕ}
 use mathlib.Core.Path.{_≡_}
 use mathlib.Core.List.{List}
 use lib.ListN.{take}
-use Rattle.rules.specs.Rows.{Ticks, Reply, startsOf}
+use Rattle.rules.specs.Rows.{Reply, startsOf}
 use Rattle.rules.specs.Verdicts.{Verdict, accepted, Test, onwards}
 use Rattle.rules.specs.Bytes.{startsBytes}
 use Rattle.rules.specs.Judge.{judgeReply}

@@ -1,9 +1,7 @@
 // A reply's bytes, read field by field in document 01's order, and unfolded: the starts that its rows came from.
 ghost use mathlib.Core.Path.{_≡_};
-ghost use mathlib.Core.Bool.{true};
-ghost use mathlib.Core.List.{_++_};
 ghost use Prim.Native.Nat.{_+_, _*_, _<_, _≤_};
-ghost use lib.ListN.{length, drop};
+ghost use lib.ListN.{length};
 ghost use Rattle.rules.specs.Rows.{ticks, unfoldAt};
 ghost use Rattle.rules.specs.Verdicts.{accepted};
 ghost use Rattle.rules.specs.Bytes.{num16, rowAt};

@@ -1,35 +1,19 @@
 -- Laws of a verdict with its table, whatever was judged: refusals and accepted tables.
 -- Assumes nothing.
-use Prim.Native.Nat.{ℕ}
 use mathlib.Core.Path.{_≡_, refl, sym, ap, subst⁻¹, _∙_}
 use lib.ListN.{length}
 use Rattle.rules.specs.Table.{Table, Accepted}
 use Rattle.rules.specs.Verdicts.{Verdict, accepted, refused, onwards}
 use Rattle.theory.proofs.Verdicts.{never-refused}
 use Rattle.fields.specs.Verdicts.{refusalOf, tested}
+use Rattle.fields.specs.RefusalLaws.{refusal-is, heard-refusal}
 use Rattle.fields.specs.declared.Refusal.{Refusal}
-use Rattle.fields.specs.declared.Refusal.the-variants.{Short, Order, Size, Range, Many, Clash, Race, Room, Ask}
 use Rattle.fields.specs.declared.Verdict.the-variants.{Refused}
 use Rattle.fields.specs.declared.Verdict.the-variants as said
 use Rattle.table.specs.Tables.{JudgedAs, tableOf, tableIn, noTable, Good}
 use Rattle.table.specs.TableLaws.{table-back, good-in}
 use Rattle.table.specs.declared.Table as code
 use Rattle.table.specs.declared.Judged.{Judged}
-
--- ---- refusals
-
--- a refusal is one whatever was to be accepted
-pub refusal-is : {A B : Type 0} (q : Refusal)
-    → (n : ℕ) × (a : ℕ) × (b : ℕ) × (refusalOf {A = A} q ≡ refused n a b) × (refusalOf {A = B} q ≡ refused n a b)
-refusal-is (Short at) = (_, _, _, refl, refl)
-refusal-is (Order at) = (_, _, _, refl, refl)
-refusal-is (Size at) = (_, _, _, refl, refl)
-refusal-is (Range at) = (_, _, _, refl, refl)
-refusal-is (Many at) = (_, _, _, refl, refl)
-refusal-is (Clash i j) = (_, _, _, refl, refl)
-refusal-is (Race i j) = (_, _, _, refl, refl)
-refusal-is (Room n) = (_, _, _, refl, refl)
-refusal-is (Ask place) = (_, _, _, refl, refl)
 
 -- a refusal with the empty table
 pub denied : (q : Refusal) → JudgedAs (refusalOf q) (record { verdict = Refused q; table = noTable })
@@ -61,13 +45,7 @@ judged-accepted (accepted T) r j e = record { table = T; said = refl; held = j .
 judged-accepted (refused n a b) r j e = never-refused (sym (j .said) ∙ ap tested e)
 
 pub judged-refused : (v : Verdict Table) (r : Judged) (q : Refusal) → JudgedAs v r → r .verdict ≡ Refused q → v ≡ refusalOf q
-unfolding onwards
-judged-refused (accepted T) r q j e =
-    let (n, a, b, x, y) = refusal-is {A = Unit {0}} {B = Table} q in never-refused (sym x ∙ sym (ap tested e) ∙ j .said)
-judged-refused (refused n a b) r q j e =
-    let (m, c, d, x, y) = refusal-is {A = Unit {0}} {B = Table} q in
-    let same = sym x ∙ sym (ap tested e) ∙ j .said in
-    cc
+judged-refused v r q j e = heard-refusal v q (sym (ap tested e) ∙ j .said)
 
 -- an accepted table is one that the engine takes
 module _ {v : Verdict Table} {t : code.Table} (took : Took v t) (ok : Accepted (took .table)) where

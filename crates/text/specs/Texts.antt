@@ -6,7 +6,6 @@ use mathlib.Core.List.{List, _++_}
 use lib.ListN.{length}
 use Rattle.rules.specs.Text.{decimal, newline}
 use Rattle.puts.specs.Puts.{stored}
-use Rattle.text.specs.declared.Figures.{Figures}
 
 -- from the buffer out, end with the bytes stored at a place, and n the place behind them
 abbrev pub Puts : List ℕ → List ℕ → ℕ → ℕ → List ℕ → Type 0
@@ -15,7 +14,3 @@ Puts out end at n bytes = (end ≡ stored out at bytes) × (n ≡ at + length by
 -- three words, each with a number behind it, and the end of the line
 abbrev pub lineOf : List ℕ → ℕ → List ℕ → ℕ → List ℕ → ℕ → List ℕ
 lineOf u x v y w z = u ++ decimal x ++ (v ++ decimal y) ++ (w ++ decimal z) ++ newline
-
--- a refusal in numbers
-abbrev pub figuresOf : ℕ → ℕ → ℕ → Figures
-figuresOf number a b = record { number = number; a = a; b = b }

@@ -3,25 +3,18 @@ ghost use mathlib.Core.Path.{_≡_};
 ghost use mathlib.Core.List.{_++_};
 ghost use Prim.Native.Nat.{_+_, _*_, _≤_};
 ghost use lib.ListN.{length};
-ghost use Rattle.rules.specs.Rows.{Reply, replyOf};
-ghost use Rattle.rules.specs.Verdicts.{refused};
+ghost use Rattle.rules.specs.Rows.{replyOf};
 ghost use Rattle.rules.specs.Text.{decimal, rowLine, rowLines, periodLine, refusedLine, replyText, textOf};
 ghost use Rattle.rules.specs.Answers.{put};
 ghost use Rattle.fields.specs.Verdicts.{refusalOf, answered, left};
 ghost use Rattle.table.specs.Tables.{tableOf, Good};
 ghost use Rattle.rows.specs.Rows.{rowOf};
-ghost use Rattle.text.specs.Texts.{Puts, lineOf, figuresOf};
+ghost use Rattle.text.specs.Texts.{Puts, lineOf};
 use fields::Answer;
+use fields::Figures;
 use fields::Refusal;
 use rows::Row;
 use table::Table;
-
-// A refusal in numbers.
-struct Figures {
-    number: u64,
-    a: usize,
-    b: usize,
-}
 
 // A number's digits, the highest first; the place behind them.
 fn put_decimal(out: &mut [u8], at: usize, n: u64) -> usize
@@ -104,9 +97,8 @@ fn put_refused_line(out: &mut [u8], at: usize, f: Figures) -> usize
     requires { ⌜ at + length (refusedLine (f .number) (f .a) (f .b)) ≤ length (now out) ⌝ }
     ensures { λ x. ⌜ Puts (now (out .entry)) (now (out .exit)) at x (refusedLine (f .number) (f .a) (f .b)) ⌝ }
 {
-    let a = f.a as u64;
-    let b = f.b as u64;
-    put_line(out, at, b"refused ", f.number, b" ", a, b" ", b)
+    let number = f.number as u64;
+    put_line(out, at, b"refused ", number, b" ", f.a, b" ", f.b)
 }
 
 // The lines of the table's rows at the period q, each of 24 bytes at most.
@@ -122,29 +114,6 @@ fn put_row_lines(out: &mut [u8], at: usize, t: Table, q: u32) -> usize
         i += 1;
     }
     end
-}
-
-fn numbered(number: u64, a: usize, b: usize) -> Figures
-    ensures { λ f. ⌜ f ≡ figuresOf number a b ⌝ }
-{
-    Figures { number, a, b }
-}
-
-// A refusal's number, a and b.
-fn refusal_figures(r: Refusal) -> Figures
-    ensures { λ f. ⌜ refusalOf {A = Reply} r ≡ refused (f .number) (f .a) (f .b) ⌝ }
-{
-    match r {
-        Refusal::Short(at) => numbered(1, at, 0),
-        Refusal::Order(at) => numbered(2, at, 0),
-        Refusal::Size(at) => numbered(3, at, 0),
-        Refusal::Range(at) => numbered(4, at, 0),
-        Refusal::Many(at) => numbered(5, at, 0),
-        Refusal::Clash(i, j) => numbered(6, i, j),
-        Refusal::Race(i, j) => numbered(7, i, j),
-        Refusal::Room(n) => numbered(8, n, 0),
-        Refusal::Ask(place) => numbered(9, place, 0),
-    }
 }
 
 // The text from the front of the buffer, or ROOM.
@@ -177,6 +146,6 @@ pub fn put_refusal(out: &mut [u8], r: Refusal) -> Answer
 {
     // 11 bytes, and 20 for each of three numbers.
     let mut text = [0u8; 71];
-    let n = put_refused_line(&mut text, 0, refusal_figures(r));
+    let n = put_refused_line(&mut text, 0, fields::figures_of(r));
     put_text(out, &text[..n])
 }

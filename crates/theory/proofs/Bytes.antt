@@ -141,9 +141,10 @@ module _ (s : List ℕ) (at tag size : ℕ) (ok : Bool) (t : num8 s at ≡ tag) 
           le-ltb (length s) (at + 3 + size) h,
         )
 
-pub in-range : (ok : Bool) (at : ℕ) → ok ≡ true → ranged ok at ≡ accepted tt
+-- a number or set in its range passes
+pub ranged-yes : (ok : Bool) (at : ℕ) → ok ≡ true → ranged ok at ≡ accepted tt
 unfolding ranged
-in-range ok at h = passes (not ok) _ _ _ (rw h)
+ranged-yes ok at h = passes (not ok) _ _ _ (rw h)
 
 -- the length of a table, or a period
 pub len-ok : (p : ℕ) → 1 ≤ p → p ≤ 1000 → lenOk p ≡ true
@@ -171,11 +172,12 @@ unfolding fieldsOf
 fields-accepted d size ok [] left at few h = refl
 fields-accepted d size ok (x ∷ xs) zero at few h = absurd (omega arith)
 fields-accepted d size ok (x ∷ xs) (suc left) at few h =
-    then-accepts _ (in-range (ok x) at (h 0 (omega arith)))
+    then-accepts _ (ranged-yes (ok x) at (h 0 (omega arith)))
     ∙ more-accepts x (fields-accepted d size ok xs left (at + 3 + size) (omega arith) (λ i b. h (suc i) (omega arith)))
 
 module _ {A : Type 0} (tag size : ℕ) (ok : A → Bool) (value : List ℕ → ℕ → A) (s : List ℕ) (at : ℕ) where
-  no-field : (left : ℕ) → length s ≤ at → fieldsFrom tag size ok value s left at ≡ accepted []
+  -- none at the end of the input
+  pub no-field : (left : ℕ) → length s ≤ at → fieldsFrom tag size ok value s left at ≡ accepted []
   unfolding fieldsFrom
   no-field zero h = rw (le-leb (length s) at h)
   no-field (suc left) h = rw (le-leb (length s) at h)

@@ -431,7 +431,7 @@ whole-ok H os unit room T head some ops e =
 -- ---- a table's bytes
 
 -- as many words as were asked for
-length-words : (s : List ℕ) (at n : ℕ) → length (words s at n) ≡ n
+pub length-words : (s : List ℕ) (at n : ℕ) → length (words s at n) ≡ n
 unfolding words
 length-words s at zero = refl
 length-words s at (suc n) = ap suc (length-words s (at + 4) n)

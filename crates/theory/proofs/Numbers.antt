@@ -18,7 +18,7 @@ use Rattle.theory.specs.Numbers.{opNumbers, numbersOf, TableFits}
 use Rattle.theory.proofs.Says.{says-and}
 use Rattle.theory.proofs.Verdicts.{passes, passed, then-accepts, then-first, then-rest, then-same, onwards-accepts}
 use Rattle.theory.proofs.Judging.{says-set, says-op, says-each-set, says-counts, whole-accepts}
-use Rattle.theory.proofs.Bytes.{two-bytes, four-bytes, words-back, joined-length, words-length, headBytes, head-length, table-length, field-size, field-whole, in-range, len-ok, fieldsOf, fields-accepted, fields-back, op-repeated}
+use Rattle.theory.proofs.Bytes.{two-bytes, four-bytes, words-back, joined-length, words-length, headBytes, head-length, table-length, field-size, field-whole, ranged-yes, len-ok, fieldsOf, fields-accepted, fields-back, op-repeated}
 
 -- ---- the operations' numbers
 
@@ -182,13 +182,13 @@ module _ (T : Table) (ok : Accepted T) where
   numbers-pass : numbersTest (numbersOf T) ≡ accepted tt
   unfolding numbersTest numbersOf
   numbers-pass =
-      then-accepts _ (in-range (lenOk (T .len)) 0 (len-ok (T .len) (ok .len-low) (ok .len-high)))
+      then-accepts _ (ranged-yes (lenOk (T .len)) 0 (len-ok (T .len) (ok .len-low) (ok .len-high)))
       ∙ then-accepts _
-      (in-range (countsOk (T .boards) (T .cells) (T .modes)) 5
+      (ranged-yes (countsOk (T .boards) (T .cells) (T .modes)) 5
       (says-counts _ _ _ .1 (ok .boards-low, (ok .boards-high, (ok .cells-high, (ok .modes-low, ok .modes-high))))))
       ∙ then-accepts _ (passes (not (eqb (length (T .follow)) (T .modes))) SIZE 11 0 (rw (eq-eqb _ _ (ok .words))))
       ∙ then-accepts _
-      (in-range (setOk (T .modes) (T .first) && eachSetOk (T .modes) (T .follow)) 11
+      (ranged-yes (setOk (T .modes) (T .first) && eachSetOk (T .modes) (T .follow)) 11
       (says-and _ _ (says-set (T .modes) (T .first)) (says-each-set (T .modes) (T .follow)) .1 (ok .firsts, λ a h. ok .follows a (omega arith))))
       ∙ passes (eqb (length (joined opNumbers (T .ops))) 0) ORDER _ 0
       (ne-eqb (length (joined opNumbers (T .ops))) 0 (λ e. omega (arith, numbers-length (T .ops))))

@@ -17,7 +17,7 @@ use Rattle.rules.specs.Judge.{lenOk, needed, fieldTest, rowOk, rowsFrom, replyT
 use Rattle.theory.proofs.Says.{Says, says-leb, says-ltb, says-and}
 use Rattle.theory.proofs.Verdicts.{passes, then-accepts, then-first, then-rest, onwards-accepts, onwards-first}
 use Rattle.theory.proofs.Judging.{field-passed, says-len, fields-passing, fields-values}
-use Rattle.theory.proofs.Bytes.{two-bytes, past16, reply-length, field-whole, in-range, len-ok, fields-accepted, Repeated, fields-back}
+use Rattle.theory.proofs.Bytes.{two-bytes, past16, reply-length, field-whole, ranged-yes, len-ok, fields-accepted, Repeated, fields-back}
 
 -- ---- fold and unfold
 
@@ -88,7 +88,7 @@ module _ (R : Reply) (d : Row) (low : 1 ≤ R .period .number) (high : R .period
   reply-passes =
       let size = reply-length R in
       let field = field-whole (replyBytes R) 0 17 2 (lenOk (num16 (replyBytes R) 3)) refl (omega arith) refl in
-      then-accepts _ (field ∙ in-range _ 0 (ap lenOk period-back ∙ len-ok (R .period .number) low high))
+      then-accepts _ (field ∙ ranged-yes _ 0 (ap lenOk period-back ∙ len-ok (R .period .number) low high))
       ∙ passes (leb (length (replyBytes R)) 5) ORDER 5 0 (lt-leb (length (replyBytes R)) 5 (omega arith))
 
   rows-back : rowsFrom (R .period .number) (replyBytes R) 32 5 ≡ accepted (R .rows)

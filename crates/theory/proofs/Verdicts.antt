@@ -58,6 +58,10 @@ module _ {A B : Type 0} where
       go (accepted x) g = g x refl
       go (refused n a b) g = refl
 
+  pub onwards-refuses : {n a b : ℕ} {v : Verdict A} (f : A → Verdict B) → v ≡ refused n a b → onwards v f ≡ refused n a b
+  unfolding onwards
+  onwards-refuses f e = rw e
+
   pub onwards-accepts : {x : A} {v : Verdict A} (f : A → Verdict B) → v ≡ accepted x → onwards v f ≡ f x
   unfolding onwards
   onwards-accepts f e = rw e
@@ -66,6 +70,20 @@ module _ {A B : Type 0} where
   unfolding onwards
   onwards-first (accepted x) f e = (x, refl, e)
   onwards-first (refused n a b) f e = never-refused e
+
+-- three in a row, whichever two are put together first
+pub then-assoc : {A B C : Type 0} (u : Verdict A) (v : Verdict B) (w : Verdict C) → ((u then v) then w) ≡ (u then (v then w))
+unfolding _then_
+then-assoc (accepted x) v w = refl
+then-assoc (refused n a b) v w = refl
+
+-- a row, and what is done with what it accepts
+pub then-onwards : {A B C D : Type 0} (t : Verdict A) (v : Verdict B) (f : B → C) (g : C → Verdict D)
+    → (t then onwards v (λ x. g (f x))) ≡ onwards (t then onwards v (λ x. accepted (f x))) g
+unfolding _then_ onwards
+then-onwards (accepted x) (accepted y) f g = refl
+then-onwards (accepted x) (refused n a b) f g = refl
+then-onwards (refused n a b) v f g = refl
 
 module _ {A : Type 0} where
   pub more-accepts : {xs : List A} {v : Verdict (List A)} (x : A) → v ≡ accepted xs → more x v ≡ accepted (x ∷ xs)

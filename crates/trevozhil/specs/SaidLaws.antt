@@ -1,6 +1,6 @@
 -- What is told of a verdict of the code is what is told of the rules' verdict.
 -- Assumes nothing.
-use mathlib.Core.Path.{_≡_, refl, ap, _∙_}
+use mathlib.Core.Path.{_≡_, refl, sym, ap, _∙_}
 use Prim.Native.Nat.{ℕ}
 use mathlib.Core.Bool.{Bool}
 use mathlib.Core.List.{List}
@@ -9,33 +9,19 @@ use Rattle.rules.specs.Verdicts.{accepted, refused, onwards}
 use Rattle.rules.specs.Verdicts as rules
 use Rattle.rules.specs.Table.{Table}
 use Rattle.fields.specs.declared.Refusal.{Refusal}
-use Rattle.fields.specs.declared.Refusal.the-variants.{Short, Order, Size, Range, Many, Clash, Race, Room, Ask}
 use Rattle.fields.specs.declared.Verdict.{Verdict}
 use Rattle.fields.specs.declared.Verdict.the-variants.{Accepted, Refused}
 use Rattle.fields.specs.Verdicts.{refusalOf, verdictOn, tested}
+use Rattle.fields.specs.RefusalLaws.{refusal-is, onwards-refusal}
 use Rattle.table.specs.declared.Judged.{Judged}
 use Rattle.table.specs.Tables.{JudgedAs}
-use Rattle.table.specs.JudgedLaws.{refusal-is}
 use Rattle.trevozhil.specs.declared.Said.{Said}
 use Rattle.trevozhil.specs.Said.{said, saidOf, unwritten, left, yesOf, measure, measureOf}
-
--- a refusal says the same, whatever would have been accepted
-refusal-unwritten : (r : Refusal) → refusalOf r ≡ unwritten (tested (Refused r))
-unfolding unwritten
-refusal-unwritten (Short at) = refl
-refusal-unwritten (Order at) = refl
-refusal-unwritten (Size at) = refl
-refusal-unwritten (Range at) = refl
-refusal-unwritten (Many at) = refl
-refusal-unwritten (Clash i j) = refl
-refusal-unwritten (Race i j) = refl
-refusal-unwritten (Room n) = refl
-refusal-unwritten (Ask place) = refl
 
 verdict-unwritten : (c : Verdict) → verdictOn c 0 ≡ unwritten (tested c)
 unfolding unwritten
 verdict-unwritten Accepted = refl
-verdict-unwritten (Refused r) = refusal-unwritten r
+verdict-unwritten (Refused r) = sym (onwards-refusal r (λ x. accepted 0) refl)
 
 tested-unwritten : {A : Type 0} (v : rules.Verdict A) → unwritten (onwards v (λ x. accepted (tt {0}))) ≡ unwritten v
 unfolding unwritten

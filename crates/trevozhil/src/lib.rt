@@ -29,16 +29,11 @@ fn figures(number: u32, a: usize, b: usize) -> Said
 fn refusal_said(r: Refusal) -> Said
     ensures { λ w. ⌜ w ≡ saidOf (refusalOf r) ⌝ }
 {
-    match r {
-        Refusal::Short(at) => figures(1, at, 0),
-        Refusal::Order(at) => figures(2, at, 0),
-        Refusal::Size(at) => figures(3, at, 0),
-        Refusal::Range(at) => figures(4, at, 0),
-        Refusal::Many(at) => figures(5, at, 0),
-        Refusal::Clash(i, j) => figures(6, i, j),
-        Refusal::Race(i, j) => figures(7, i, j),
-        Refusal::Room(n) => figures(8, n, 0),
-        Refusal::Ask(place) => figures(9, place, 0),
+    let f = fields::figures_of(r);
+    Said {
+        number: f.number,
+        a: f.a,
+        b: f.b,
     }
 }
 

@@ -8,7 +8,8 @@ use denote.Ref.{now}
 use borrow.Author.Needs.{needs}
 use borrow.Author.Tests.{not-true, not-false}
 use Rattle.rules.specs.Judge.{opOf, opOk}
-use Rattle.fields.specs.FieldLaws.{ranged-no, ranged-yes}
+use Rattle.theory.proofs.Bytes.{ranged-yes}
+use Rattle.fields.specs.FieldLaws.{ranged-no}
 use Rattle.handed.specs.Handed.{countsOf}
 use Rattle.handed.specs.OpsLaws.{op-there, op-many, op-short, op-whole}
 use Rattle.handed.proofs.op_test.Statement.{statement}

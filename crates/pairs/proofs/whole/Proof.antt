@@ -4,7 +4,7 @@ use mathlib.Core.Path.{sym, ap, _∙_}
 use borrow.Author.Needs.{needs}
 use Rattle.theory.proofs.Verdicts.{then-accepts}
 use Rattle.fields.specs.Verdicts.{tested}
-use Rattle.pairs.specs.Whole.{then-refusal}
+use Rattle.fields.specs.RefusalLaws.{then-refusal}
 use Rattle.pairs.proofs.whole.Statement.{statement}
 use Rattle.pairs.proofs.whole.Tie as tie
 

@@ -1,14 +1,15 @@
 -- A refusal of the table is the answer; an accepted one is asked.
 -- Assumes nothing.
-use mathlib.Core.Path.{sym, subst}
+use mathlib.Core.Path.{subst}
 use Rattle.rules.specs.Judge.{judge}
 use Rattle.rules.specs.Verdicts.{Verdict, accepted, _then_}
 use Rattle.theory.proofs.Judging.{judge-accepted}
+use Rattle.fields.specs.RefusalLaws.{onwards-refusal}
 use Rattle.table.specs.JudgedLaws.{judged-accepted, judged-refused, took-good}
 use Rattle.rules.specs.Table.{Table}
 use Rattle.rules.specs.Answers.{Answers, RightSaid, periodAsked}
 use Rattle.questions.specs.Questions.{saidOf}
-use Rattle.questions.specs.QuestionLaws.{refused-on, refused-answers, accepted-on}
+use Rattle.questions.specs.QuestionLaws.{refused-answers, accepted-on}
 use borrow.Author.Needs.{needs}
 use Rattle.questions.proofs.is_right.Statement.{statement}
 use Rattle.questions.proofs.is_right.Tie as tie
@@ -32,7 +33,7 @@ returns : tie.Need-returns
 returns c =
     let verdict = c .before in
     let read = verdict .before .before .read in
-    refused-answers _ (verdict .verdict .given .0 .0) (sym (refused-on _ (verdict .verdict .given .0 .0) (judged-refused (judge _) (read .result) (verdict .verdict .given .0 .0) (read .ensures) (verdict .verdict .given .1))))
+    refused-answers _ (verdict .verdict .given .0 .0) (onwards-refusal (verdict .verdict .given .0 .0) _ (judged-refused (judge _) (read .result) (verdict .verdict .given .0 .0) (read .ensures) (verdict .verdict .given .1)))
 
 returns-2 : tie.Need-returns-2
 returns-2 c =

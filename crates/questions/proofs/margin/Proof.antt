@@ -1,10 +1,11 @@
 -- A refusal of the table is the answer; an accepted one is asked.
 -- Assumes nothing.
-use mathlib.Core.Path.{_∙_}
+use mathlib.Core.Path.{sym, _∙_}
 use Rattle.rules.specs.Judge.{judge}
 use Rattle.theory.proofs.Judging.{judge-accepted}
+use Rattle.fields.specs.RefusalLaws.{onwards-refusal}
 use Rattle.table.specs.JudgedLaws.{judged-accepted, judged-refused, took-good}
-use Rattle.questions.specs.QuestionLaws.{refused-on, accepted-on}
+use Rattle.questions.specs.QuestionLaws.{accepted-on}
 use borrow.Author.Needs.{needs}
 use Rattle.questions.proofs.margin.Statement.{statement}
 use Rattle.questions.proofs.margin.Tie as tie
@@ -28,7 +29,7 @@ returns : tie.Need-returns
 returns c =
     let verdict = c .before in
     let read = verdict .before .before .read in
-    refused-on _ (verdict .verdict .given .0 .0) (judged-refused (judge _) (read .result) (verdict .verdict .given .0 .0) (read .ensures) (verdict .verdict .given .1))
+    sym (onwards-refusal (verdict .verdict .given .0 .0) _ (judged-refused (judge _) (read .result) (verdict .verdict .given .0 .0) (read .ensures) (verdict .verdict .given .1)))
 
 returns-2 : tie.Need-returns-2
 returns-2 c =

@@ -7,9 +7,10 @@ use native.Mathlib.Omega.{arith}
 use Rattle.rules.specs.Verdicts.{refused, ORDER}
 use Rattle.rules.specs.Bytes.{num8}
 use Rattle.rules.specs.Judge.{opsPlace}
+use Rattle.fields.specs.RefusalLaws.{then-refusal}
 use Rattle.fields.specs.FieldLaws.{needed-no, needed-yes}
 use Rattle.reading.specs.Reading.{modesTest}
-use Rattle.reading.specs.ReadingLaws.{passed-as, refused-as, refusal-then, head-tests, after-len, after-counts, after-modes, counts-fit}
+use Rattle.reading.specs.ReadingLaws.{passed-as, refused-as, head-tests, after-len, after-counts, after-modes, counts-fit}
 use borrow.Author.Needs.{needs}
 use Rattle.reading.proofs.head_test.Statement.{statement}
 use Rattle.reading.proofs.head_test.Tie as tie
@@ -23,7 +24,7 @@ enum-known-len c = search needs
 returns : tie.Need-returns
 returns c =
     let l = c .before .before .before in
-    refusal-then (c .before .len .given .0 .0) _ (refused-as (l .len-test .ensures) (c .before .len .given .1)) ∙ sym (head-tests _)
+    sym (head-tests _ ∙ then-refusal (c .before .len .given .0 .0) _ (sym (refused-as (l .len-test .ensures) (c .before .len .given .1))))
 
 enum-told : tie.Need-enum-told
 enum-told c = search needs
@@ -39,7 +40,7 @@ returns-2 c =
     let k = c .before .before .before in
     let e1 = k .before in
     let l = e1 .before .before in
-    refusal-then (c .before .counts .given .0 .0) _ (refused-as (k .counts-test .ensures) (c .before .counts .given .1)) ∙ sym (after-len _ (passed-as (l .len-test .ensures) (e1 .enum-told .given .1)))
+    sym (after-len _ (passed-as (l .len-test .ensures) (e1 .enum-told .given .1)) ∙ then-refusal (c .before .counts .given .0 .0) _ (sym (refused-as (k .counts-test .ensures) (c .before .counts .given .1))))
 
 enum-told-2 : tie.Need-enum-told-2
 enum-told-2 c = search needs
@@ -69,8 +70,8 @@ returns-3 c =
     let l = e1 .before .before in
     let s = now (l .before .before .args .s) in
     let modes = m .before .byte .ensures .0 in
-    refusal-then (c .before .sets .given .0 .0) _ (refused-as (m .modes-test .ensures) (c .before .sets .given .1) ∙ ap (λ (n : ℕ). modesTest n s) modes)
-    ∙ sym (after-counts s (passed-as (l .len-test .ensures) (e1 .enum-told .given .1)) (passed-as (k .counts-test .ensures) (e2 .enum-told2 .given .1)))
+    sym (after-counts s (passed-as (l .len-test .ensures) (e1 .enum-told .given .1)) (passed-as (k .counts-test .ensures) (e2 .enum-told2 .given .1))
+    ∙ then-refusal (c .before .sets .given .0 .0) _ (sym (refused-as (m .modes-test .ensures) (c .before .sets .given .1) ∙ ap (λ (n : ℕ). modesTest n s) modes)))
 
 enum-told-3 : tie.Need-enum-told-3
 enum-told-3 c = search needs

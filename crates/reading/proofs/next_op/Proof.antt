@@ -1,6 +1,5 @@
 -- The tests before the ranges; then the ranges of the six numbers; then the operation that has them.
 -- Assumes nothing.
-use Prim.Native.Nat.{_-_}
 use native.Mathlib.Omega.{arith}
 use mathlib.Core.Path.{sym, ap, _∙_}
 use borrow.Author.Tests.{not-true, not-false}

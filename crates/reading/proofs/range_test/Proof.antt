@@ -1,7 +1,8 @@
 -- The range test refuses where the range is not kept.
 -- Assumes nothing.
 use mathlib.Core.Path.{sym}
-use Rattle.fields.specs.FieldLaws.{ranged-no, ranged-yes}
+use Rattle.theory.proofs.Bytes.{ranged-yes}
+use Rattle.fields.specs.FieldLaws.{ranged-no}
 use Rattle.reading.proofs.range_test.Statement.{statement}
 use Rattle.reading.proofs.range_test.Tie as tie
 

@@ -3,8 +3,9 @@
 use denote.Ref.{now}
 use mathlib.Core.Path.{sym, _∙_}
 use Rattle.theory.proofs.Verdicts.{then-accepts}
+use Rattle.fields.specs.RefusalLaws.{then-refusal}
 use Rattle.pairs.specs.Whole.{whole-judged}
-use Rattle.reading.specs.ReadingLaws.{passed-as, refused-as, refusal-then}
+use Rattle.reading.specs.ReadingLaws.{passed-as, refused-as}
 use Rattle.reading.specs.Callers.{read-refused, read-few, read-passed, read-hit}
 use borrow.Author.Needs.{needs}
 use Rattle.reading.proofs.read.Statement.{statement}
@@ -54,7 +55,7 @@ returns-3 c =
     let e = w .before .before in
     let f = e .before .before in
     read-hit _ _ (f .read-fields .ensures) (e .enum-told2 .given .1) (r .w .given .0 .0) (c .empty .ensures)
-    (refusal-then (r .w .given .0 .0) _ (refused-as (w .whole .ensures) (r .w .given .1)) ∙ sym (whole-judged _))
+    (sym (whole-judged _ ∙ then-refusal (r .w .given .0 .0) _ (sym (refused-as (w .whole .ensures) (r .w .given .1)))))
 
 pub read-spec : {M : Type 1} → statement M
 read-spec =

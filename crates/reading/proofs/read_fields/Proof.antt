@@ -3,7 +3,8 @@
 use mathlib.Core.Path.{sym}
 use Rattle.theory.proofs.Verdicts.{then-accepts}
 use Rattle.reading.specs.Reading.{fieldsVerdict}
-use Rattle.reading.specs.ReadingLaws.{passed-as, refused-as, refusal-then, judged-refused}
+use Rattle.fields.specs.RefusalLaws.{then-refusal}
+use Rattle.reading.specs.ReadingLaws.{passed-as, refused-as, denied-as}
 use borrow.Author.Needs.{needs}
 use Rattle.reading.proofs.read_fields.Statement.{statement}
 use Rattle.reading.proofs.read_fields.Tie as tie
@@ -28,7 +29,7 @@ unfolding fieldsVerdict
 returns c =
     let v = c .before .before in
     let h = v .before .before in
-    judged-refused (v .v .given .0 .0) _ (c .empty .ensures) (refusal-then (v .v .given .0 .0) _ (refused-as (h .head-test .ensures) (v .v .given .1)))
+    denied-as (v .v .given .0 .0) _ (c .empty .ensures) (sym (then-refusal (v .v .given .0 .0) _ (sym (refused-as (h .head-test .ensures) (v .v .given .1)))))
 
 returns-2 : tie.Need-returns-2
 unfolding fieldsVerdict

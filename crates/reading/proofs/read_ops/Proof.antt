@@ -10,13 +10,6 @@ use Rattle.reading.specs.Reading.{nextOf}
 use Rattle.reading.specs.ReadingLaws.{SoFar, head-fits, head-modes, so-none, so-fits, so-bad, so-more, so-end}
 use Rattle.reading.proofs.read_ops.Statement.{statement}
 use Rattle.reading.proofs.read_ops.Tie as tie
-use Rattle.reading.proofs.read_ops.Reads as reads
-use Rattle.reading.proofs.read_ops.Lts as lts
-use Rattle.reading.proofs.next_op.Reads as next-op-reads
-use Rattle.reading.proofs.ops_place.Reads as ops-place-reads
-use Rattle.reading.proofs.read_head.Reads as read-head-reads
-use Rattle.table.proofs.empty.Reads as empty-reads
-use Rattle.table.proofs.with_op.Reads as with-op-reads
 
 abbrev Inv-loop : tie.InvT-loop
 Inv-loop s t₀ at₀ t at = SoFar s t at

@@ -2,7 +2,6 @@
 -- Assumes nothing.
 use mathlib.Core.Path.{sym, ap, _∙_}
 use native.Mathlib.Omega.{arith}
-use Rattle.rules.specs.Rows.{Row}
 use Rattle.rules.specs.Judge.{rowOk}
 use Rattle.fields.specs.FieldLaws.{repeat-passed}
 use Rattle.reading.specs.ReadingLaws.{passed-as, refused-as, repeat-bad, repeat-ranged}

@@ -1,8 +1,8 @@
 -- In each case the figures are those that `refusalOf` gives it.
 -- Assumes nothing.
 use borrow.Author.Needs.{needs}
-use Rattle.text.proofs.refusal_figures.Statement.{statement}
-use Rattle.text.proofs.refusal_figures.Tie as tie
+use Rattle.fields.proofs.figures_of.Statement.{statement}
+use Rattle.fields.proofs.figures_of.Tie as tie
 
 enum-known-r : tie.Need-enum-known-r
 enum-known-r c = search needs
@@ -85,8 +85,8 @@ returns-8 c = rw (c .numbered8 .ensures, c .before .before .r8 .given .1)
 returns-9 : tie.Need-returns-9
 returns-9 c = rw (c .numbered9 .ensures, c .before .before .r9 .given .1)
 
-pub refusal-figures-spec : {M : Type 1} → statement M
-refusal-figures-spec =
+pub figures-of-spec : {M : Type 1} → statement M
+figures-of-spec =
     tie.close
     (tie.spec
     enum-known-r
