@@ -1,8 +1,8 @@
 -- Laws of the numbers before the operations: their tests, the words, and that numbers that pass fit the code's.
 -- Assumes nothing.
 use Prim.Native.Nat.{ℕ, _+_, _^_, _<_, _≤_}
-use mathlib.Core.Path.{_≡_, refl, sym, ap, _∙_}
-use mathlib.Core.Bool.{Bool, true, false, not, _&&_}
+use mathlib.Core.Path.{_≡_, sym, ap, _∙_}
+use mathlib.Core.Bool.{true, false, not, _&&_}
 use mathlib.Core.List.{List}
 use native.Mathlib.Omega.{arith}
 use native.Mathlib.Numerals.{add-one}
@@ -16,7 +16,7 @@ use Rattle.rules.specs.Verdicts.{accepted, refused, ORDER, SIZE, RANGE, refuseI
 use Rattle.rules.specs.Judge.{Numbers, headOfNumbers, ranged, lenOk, countsOk, setOk, eachSetOk, opsPlace, numbersTest}
 use Rattle.theory.proofs.Says.{says-leb, says-and}
 use Rattle.theory.proofs.Verdicts.{passes, refuses, passed, then-accepts, then-refuses, then-first, then-rest}
-use Rattle.theory.proofs.Judging.{says-set, says-each-set, says-counts}
+use Rattle.theory.proofs.Judging.{says-set, says-each-set, says-counts, range-passed, numbers-row}
 use Rattle.theory.proofs.Bytes.{ranged-yes}
 use Rattle.fields.specs.FieldLaws.{ranged-no}
 use Rattle.fields.specs.Verdicts.{refusalOf}
@@ -27,29 +27,19 @@ use Rattle.handed.specs.Handed.{opsVerdict, numbersVerdict, SmallCounts,
 -- ---- what stands before the operations
 
 module _ (N : Numbers) where
-  -- the row of tests
-  test-row : numbersTest N
-      ≡ (ranged (lenOk (N .len)) 0
-      then ranged (countsOk (N .boards) (N .cells) (N .modes)) 5
-      then refuseIf (not (eqb (length (N .follow)) (N .modes))) SIZE 11 0
-      then ranged (setOk (N .modes) (N .first) && eachSetOk (N .modes) (N .follow)) 11
-      then refuseIf (eqb (length (N .ops)) 0) ORDER (opsPlace (N .modes)) 0)
-  unfolding numbersTest
-  test-row = refl
-
   pub test-len : lenOk (N .len) ≡ false → numbersTest N ≡ refused RANGE 0 0
-  test-len e = test-row ∙ then-refuses _ (ranged-no _ 0 e)
+  test-len e = numbers-row N ∙ then-refuses _ (ranged-no _ 0 e)
 
   module _ (e0 : lenOk (N .len) ≡ true) where
     pub test-counts : countsOk (N .boards) (N .cells) (N .modes) ≡ false → numbersTest N ≡ refused RANGE 5 0
-    test-counts e = test-row ∙ then-accepts _ (ranged-yes _ 0 e0) ∙ then-refuses _ (ranged-no _ 5 e)
+    test-counts e = numbers-row N ∙ then-accepts _ (ranged-yes _ 0 e0) ∙ then-refuses _ (ranged-no _ 5 e)
 
     module _ (e1 : countsOk (N .boards) (N .cells) (N .modes) ≡ true) where
       to-size : numbersTest N
           ≡ (refuseIf (not (eqb (length (N .follow)) (N .modes))) SIZE 11 0
           then ranged (setOk (N .modes) (N .first) && eachSetOk (N .modes) (N .follow)) 11
           then refuseIf (eqb (length (N .ops)) 0) ORDER (opsPlace (N .modes)) 0)
-      to-size = test-row ∙ then-accepts _ (ranged-yes _ 0 e0) ∙ then-accepts _ (ranged-yes _ 5 e1)
+      to-size = numbers-row N ∙ then-accepts _ (ranged-yes _ 0 e0) ∙ then-accepts _ (ranged-yes _ 5 e1)
 
       pub test-size : (length (N .follow) ≡ N .modes → ⊥) → numbersTest N ≡ refused SIZE 11 0
       test-size h = to-size ∙ then-refuses _ (refuses _ SIZE 11 0 (ap not (ne-eqb _ _ h)))
@@ -86,11 +76,6 @@ pub words-end : (n : ℕ) (ws : List ℕ) (i : ℕ) → length ws ≤ i → each
 unfolding eachSetOk
 words-end n ws i h = rw (drop-of-length-le ws h)
 
--- what passes is in its range
-pub range-passed : (ok : Bool) (at : ℕ) → ranged ok at ≡ accepted tt → ok ≡ true
-unfolding ranged
-range-passed ok at e = not-false ok (passed (not ok) RANGE at 0 e)
-
 -- numbers that pass fit the code's
 fits : {n s : ℕ} → SetOf n s → n ≤ 32 → s < 2 ^ 32
 fits {n} {s} h l = let m : 2 ^ n ≤ 2 ^ 32 = pow-mono l in omega (arith, h .small)
@@ -103,7 +88,7 @@ counts-small boards cells modes e =
 pub test-small : (N : Numbers) → numbersTest N ≡ accepted tt → Small (headOfNumbers N)
 unfolding lenOk
 test-small N e =
-    let e0 = sym (test-row N) ∙ e in
+    let e0 = sym (numbers-row N) ∙ e in
     let e1 = then-rest _ _ e0 in
     let e2 = then-rest _ _ e1 in
     let e3 = then-rest _ _ e2 in

@@ -1,11 +1,11 @@
 -- Laws of the whole judgement of numbers.
 -- Assumes nothing.
-use mathlib.Core.Path.{_≡_, refl, sym, ap, _∙_}
+use mathlib.Core.Path.{_≡_, sym, ap, _∙_}
 use lib.ListN.{length}
 use Rattle.rules.specs.Table.{Table}
-use Rattle.rules.specs.Verdicts.{Verdict, accepted, refused, _then_, onwards}
+use Rattle.rules.specs.Verdicts.{_then_, onwards}
 use Rattle.rules.specs.Judge.{Numbers, headOfNumbers, withOps, opsPlace, opsOfNumbers, numbersTest, judgeNumbers, judgeWhole}
-use Rattle.theory.proofs.Verdicts.{then-first, then-rest, onwards-accepts, onwards-first}
+use Rattle.theory.proofs.Verdicts.{then-first, then-rest, then-onwards, onwards-accepts, onwards-first}
 use Rattle.fields.specs.Verdicts.{refusalOf}
 use Rattle.fields.specs.declared.Refusal.{Refusal}
 use Rattle.fields.specs.declared.Verdict.the-variants.{Refused}
@@ -18,13 +18,6 @@ use Rattle.table.specs.JudgedLaws.{Took, took-back, judged-refused}
 use Rattle.handed.specs.HeadLaws.{test-small}
 
 -- ---- the judgement of the numbers is that of the fields, and then that of the pairs
-then-onwards : {A B C D : Type 0} (t : Verdict A) (v : Verdict B) (f : B → C) (g : C → Verdict D)
-    → (t then onwards v (λ x. g (f x))) ≡ onwards (t then onwards v (λ x. accepted (f x))) g
-unfolding _then_ onwards
-then-onwards (accepted x) (accepted y) f g = refl
-then-onwards (accepted x) (refused n a b) f g = refl
-then-onwards (refused n a b) v f g = refl
-
 pub numbers-pairs : (N : Numbers) → judgeNumbers N ≡ onwards (numbersVerdict N) judgeWhole
 unfolding judgeNumbers numbersVerdict opsVerdict
 numbers-pairs N =

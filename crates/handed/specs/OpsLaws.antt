@@ -14,6 +14,7 @@ use Rattle.rules.specs.Table.{Op, Table}
 use Rattle.rules.specs.Verdicts.{Verdict, accepted, refused, SHORT, MANY, refuseIf, _then_, onwards, more}
 use Rattle.rules.specs.Judge.{notMany, ranged, opOk, opOf, withOps, opsPlace, opsOfNumbers}
 use Rattle.theory.proofs.Verdicts.{passes, refuses, passed, then-accepts, then-refuses, then-first, then-rest, then-assoc}
+use Rattle.theory.proofs.Judging.{range-passed}
 use Rattle.fields.specs.Verdicts.{refusalOf}
 use Rattle.fields.specs.declared.Refusal.{Refusal}
 use Rattle.fields.specs.declared.Verdict.the-variants.{Accepted}
@@ -22,7 +23,6 @@ use Rattle.table.specs.TableLaws.{with-op-in}
 use Rattle.table.specs.declared.Table as code
 use Rattle.fields.specs.RefusalLaws.{refusal-is}
 use Rattle.table.specs.JudgedLaws.{granted}
-use Rattle.handed.specs.HeadLaws.{range-passed}
 use Rattle.handed.specs.Handed.{opThere, opTest, nextTest, opsBehind, opsVerdict, SmallCounts}
 
 -- ---- one operation

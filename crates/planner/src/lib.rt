@@ -1,5 +1,4 @@
 // The planner: the public functions. Each promise is in the words of `rules` alone.
-ghost use mathlib.Core.Path.{_≡_};
 ghost use Rattle.rules.specs.Answers.{IsPlan, IsFold, IsUnfold, IsMargin, IsRight, IsWrite};
 ghost use Rattle.fields.specs.Verdicts.{answered, left};
 ghost use Rattle.table.specs.Tables.{tableOf, Good};

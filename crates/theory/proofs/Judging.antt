@@ -250,7 +250,7 @@ whole-accepted T U e =
 -- ---- one field
 
 -- a number or set that passes is in its range
-range-passed : (ok : Bool) (at : ℕ) → ranged ok at ≡ accepted tt → ok ≡ true
+pub range-passed : (ok : Bool) (at : ℕ) → ranged ok at ≡ accepted tt → ok ≡ true
 unfolding ranged
 range-passed ok at e = not-false ok (passed (not ok) RANGE at 0 e)
 
@@ -530,7 +530,7 @@ module _ (T : Table) where
 
 module _ (N : Numbers) where
   -- the rows of tests that the judgement of the head and the whole judgement are
-  numbers-row : numbersTest N
+  pub numbers-row : numbersTest N
       ≡ (ranged (lenOk (N .len)) 0
       then ranged (countsOk (N .boards) (N .cells) (N .modes)) 5
       then refuseIf (not (eqb (length (N .follow)) (N .modes))) SIZE 11 0

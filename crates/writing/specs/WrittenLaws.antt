@@ -14,7 +14,8 @@ use Rattle.fields.specs.Verdicts.{refusalOf}
 use Rattle.fields.specs.declared.Refusal.{Refusal}
 use Rattle.table.specs.Tables.{tableOf}
 use Rattle.table.specs.declared.Table.{Table}
-use Rattle.table.specs.JudgedLaws.{refusal-is, Took, took-back}
+use Rattle.fields.specs.RefusalLaws.{refusal-is}
+use Rattle.table.specs.JudgedLaws.{Took, took-back}
 use Rattle.writing.specs.Writing.{Writable}
 
 module _ (N : Numbers) {t : Table} (took : Took (judgeNumbers N) t) where
