@@ -35,11 +35,12 @@ loop-holds c =
 boards-right-requires : tie.Need-boards-right-requires Inv-loop μ-loop
 boards-right-requires c κs =
     let v = c .before in
-    let s = v .before .before .before in (
+    let s = v .before .before .before in
+    let some = s .pre .accepted .len-low in (
       s .pre,
       v .before .first-block .ensures,
-      omega (arith, v .values-bound .ensures .low, c .loop .inv .low),
-      c .loop .inv .high,
+      omega (arith, v .values-bound .ensures .low, c .loop .inv .low, some),
+      omega (arith, c .loop .inv .high, some),
     )
 
 add-q : tie.Need-add-q Inv-loop μ-loop
