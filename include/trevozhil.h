@@ -55,6 +55,9 @@ extern "C" {
 /* The starts of the most operations have this many bytes; each has 2. */
 #define TREVOZHIL_LONGEST_STARTS 64
 
+/* No text of trevozhil_fold has more bytes than this. */
+#define TREVOZHIL_TEXT_ROOM 780
+
 /*
  * Judges a table's bytes: the s_len bytes at s.
  * Answers 0 where the table is accepted, or a refusal from 1 to 7. Writes nothing but *a and *b.

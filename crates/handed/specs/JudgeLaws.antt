@@ -3,7 +3,7 @@
 use mathlib.Core.Path.{_≡_, sym, ap, _∙_}
 use lib.ListN.{length}
 use Rattle.rules.specs.Table.{Table}
-use Rattle.rules.specs.Verdicts.{_then_, onwards}
+use Rattle.rules.specs.Verdicts.{onwards}
 use Rattle.rules.specs.Judge.{Numbers, headOfNumbers, withOps, opsPlace, opsOfNumbers, numbersTest, judgeNumbers, judgeWhole}
 use Rattle.theory.proofs.Verdicts.{then-first, then-rest, then-onwards, onwards-accepts, onwards-first}
 use Rattle.fields.specs.Verdicts.{refusalOf}

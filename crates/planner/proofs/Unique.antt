@@ -2,9 +2,7 @@
 -- Assumes nothing.
 use Prim.Native.Nat.{ℕ}
 use mathlib.Core.Path.{_≡_, sym, ap}
-use mathlib.Core.Bool.{Bool}
 use mathlib.Core.List.{List}
-use lib.IntN.{ℤ}
 use Rattle.rules.specs.Judge.{Numbers}
 use Rattle.rules.specs.Answers.{IsPlan, IsFold, IsUnfold, IsWrite, IsMargin, IsRight}
 use Rattle.theory.proofs.Answering.{plan-unique, fold-unique, unfold-unique, write-unique, margin-unique, right-unique}

@@ -1,4 +1,4 @@
-// The planner: the public functions. Each promise is in the words of `rules` alone.
+// The planner: the public functions. Each promise is a definition of `rules` about the answer, told in document 01's numbers.
 ghost use Rattle.rules.specs.Answers.{IsPlan, IsFold, IsUnfold, IsMargin, IsRight, IsWrite};
 ghost use Rattle.fields.specs.Verdicts.{answered, left};
 ghost use Rattle.table.specs.Tables.{tableOf, Good};

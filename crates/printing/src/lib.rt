@@ -12,7 +12,7 @@ pub fn print(text: &[u8]) {
 
 // The text that `planner::fold` makes of a table's bytes.
 pub fn print_fold(s: &[u8]) {
-    // the longest text, the period and 32 rows, has 780 bytes, so ROOM is never told
+    // no text has more: 12 bytes for the period, and 24 for each of 32 rows; so ROOM is never told
     let mut text = [0u8; 780];
     let answer = planner::fold(s, &mut text);
     if let Answer::Wrote(k) = answer {
@@ -22,7 +22,7 @@ pub fn print_fold(s: &[u8]) {
 
 // The line of a refusal.
 pub fn print_refusal(r: Refusal) {
-    // the longest line, with three numbers of 20 digits, has 71 bytes, so ROOM is never told
+    // no line has more: 11 bytes, and 20 for each of three numbers; so ROOM is never told
     let mut line = [0u8; 71];
     let answer = text::put_refusal(&mut line, r);
     if let Answer::Wrote(k) = answer {

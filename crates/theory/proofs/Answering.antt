@@ -9,7 +9,6 @@ use native.Mathlib.Decide.{decLt}
 use lib.Dec.{leb}
 use lib.IntN.{ℤ}
 use lib.ListN.{length, take, drop, length-append, length-drop}
-use lib.Seq.{take-append-seam}
 use borrow.Author.Tests.{lt-ltb, le-ltb, not-false}
 use Rattle.rules.specs.Table.{Table, Accepted}
 use Rattle.rules.specs.Rows.{Reply, replyOf}
@@ -140,16 +139,6 @@ pub put-short : (bytes out : List ℕ) → length out < length bytes
     → put bytes out ≡ record { answer = refused ROOM (length bytes) 0; buffer = out }
 unfolding put
 put-short bytes out h = rw (lt-ltb (length out) (length bytes) h)
-
--- two byte strings for which there is room are told apart by what is left in the buffer
-pub put-same : (x y out : List ℕ) → length x ≤ length out → length y ≤ length out → put x out ≡ put y out → x ≡ y
-put-same x y out h g e =
-    let same = sym (put-room x out h) ∙ e ∙ put-room y out g in
-    let len : length x ≡ length y = cc (ap (λ (w : Written). w .answer) same) in
-    sym (take-append-seam x (drop (length x) out))
-    ∙ ap (λ (w : Written). take (length x) (w .buffer)) same
-    ∙ ap (λ (n : ℕ). take n (y ++ drop (length y) out)) len
-    ∙ take-append-seam y (drop (length y) out)
 
 put-refused : (bytes out : List ℕ) (n a b : ℕ) → put bytes out .answer ≡ refused n a b → put bytes out .buffer ≡ out
 put-refused bytes out n a b e = go (decLt (length out) (length bytes))

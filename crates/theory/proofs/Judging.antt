@@ -210,10 +210,6 @@ module _ (hit : Op → Op → Bool) (number : ℕ) (T : Table) where
         }),
   )
 
-  -- they refuse with their own number only
-  pub pairs-number : (m i j : ℕ) → pairsTest hit number T ≡ refused m i j → m ≡ number
-  pairs-number m i j e = pairs-refused m i j e .0
-
   -- they accept exactly where no pair is as a hit says
   pairs-say : {P : Op → Op → Type 0} → ((o u : Op) → Says (hit o u) (P o u))
       → (pairsTest hit number T ≡ accepted tt) ↔ ((i j : ℕ) → i < j → j < nops T → P (op T i) (op T j) → ⊥)
