@@ -60,7 +60,7 @@ heldTo o = o .start + o .dur
 -- "Two operations clash when they share a board and a mode and overlap."
 pub record Clash (o u : Op) : Type 0 where
   pub board : Share (o .boards) (u .boards)
-  pub mode : Share (o .modes) (u .modes)
+  pub mode : Share (o .modes) (u .modes)  -- reachable or not
   pub lap : Overlap (o .start) (heldTo o) (u .start) (heldTo u)
 
 -- "one writes a cell that the other reads or writes"

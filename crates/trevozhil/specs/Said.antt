@@ -15,7 +15,7 @@ use Rattle.trevozhil.specs.declared.Said.{Said}
 abbrev pub said : ℕ → ℕ → ℕ → Said
 said number a b = record { number = number; a = a; b = b }
 
--- "A refusal returns its number, a and b". Where there is none the number is 0, a is how many bytes were written and b is 0.
+-- "A refusal returns its number, a and b". Where there is none the number is 0, a is how many bytes were written, or what was asked for, and b is 0.
 abbrev pub saidOf : Verdict ℕ → Said
 saidOf (accepted n) = said 0 n 0
 saidOf (refused number a b) = said number a b
