@@ -17,7 +17,7 @@ use Rattle.theory.specs.Tests.{all, step, modesOf, boardBad, boardsFine}
 use Rattle.theory.proofs.Says.{Says, Known, holds, fails, known, clash-bool, says-by, says-and, says-not, says-all}
 use Rattle.theory.proofs.Sets.{says-shares}
 use Rattle.theory.proofs.Modes.{in-modes}
-use Rattle.table.specs.Tables.{tableOf, noOp, Good}
+use Rattle.table.specs.Tables.{tableOf, blankOp, Good}
 use Rattle.table.specs.declared.Table.{Table}
 use Rattle.turns.specs.Turns.{singles, rowAfter, blockFrom}
 use Rattle.turns.specs.TurnLaws.{good-step, rows-same, block-row, rows-add, via-row}
@@ -49,7 +49,7 @@ clear-modes f os s =
 -- operation i against all of them, at a shift: one turn by the row, of its modes that are in R, does for all that lap
 pub op-fine : (t : Table) (i : ℕ) → i < t .count → (row : List ℕ) (R shift : ℕ) {modes : ℕ} {met : Bool}
     → modes ≡ modesOf (laps (op (tableOf t) i) shift) (tableOf t .ops)
-    → met ≡ shares (step row (bitAnd R (getD (t .ops) i noOp .modes))) modes
+    → met ≡ shares (step row (bitAnd R (getD (t .ops) i blankOp .modes))) modes
     → all (λ j. not (pairBad row R shift (op (tableOf t) i) (op (tableOf t) j))) (nops (tableOf t)) ≡ not met
 unfolding pairBad
 op-fine t i h row R shift e m =

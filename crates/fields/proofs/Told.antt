@@ -12,7 +12,7 @@ use Rattle.fields.specs.declared.Verdict.{Verdict}
 use Rattle.fields.specs.declared.Verdict.the-variants.{Accepted, Refused}
 use Rattle.fields.specs.declared.Answer.{Answer}
 use Rattle.fields.specs.declared.Answer.the-variants.{Wrote, Denied}
-use Rattle.fields.specs.Verdicts.{refusalOf, tested, answered, left}
+use Rattle.fields.specs.Verdicts.{refusalOf, tested, answered, leaving}
 
 -- the refusal that has a number, a and b; none has the number 0, nor one above 9
 untold : ℕ → ℕ → ℕ → Refusal
@@ -68,5 +68,5 @@ answer-one (Denied r) (Wrote n) e = no-refusal r (sym e)
 answer-one (Denied r) (Denied s) e = ap Denied (refusal-one r s e)
 
 -- an answer and the buffer that is left with it
-pub left-one : (x y : Answer) (end fin : List ℕ) → left (answered x) end ≡ left (answered y) fin → (x ≡ y) × (end ≡ fin)
-left-one x y end fin e = (answer-one x y (ap (λ (w : Written). w .answer) e), ap (λ (w : Written). w .buffer) e)
+pub leaving-one : (x y : Answer) (end fin : List ℕ) → leaving (answered x) end ≡ leaving (answered y) fin → (x ≡ y) × (end ≡ fin)
+leaving-one x y end fin e = (answer-one x y (ap (λ (w : Written). w .answer) e), ap (λ (w : Written). w .buffer) e)

@@ -44,5 +44,5 @@ answered (Wrote n) = accepted n
 answered (Denied r) = refusalOf r
 
 -- what is answered, and what the buffer holds then
-abbrev pub left : rules.Verdict ℕ → List ℕ → Written
-left answer buffer = record { answer = answer; buffer = buffer }
+abbrev pub leaving : rules.Verdict ℕ → List ℕ → Written
+leaving answer buffer = record { answer = answer; buffer = buffer }

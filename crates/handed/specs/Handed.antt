@@ -7,7 +7,7 @@ use lib.Dec.{ltb}
 use lib.ListN.{length, getD}
 use Rattle.rules.specs.Table.{Op, Table}
 use Rattle.rules.specs.Verdicts.{Verdict, accepted, SHORT, Test, refuseIf, _then_, onwards}
-use Rattle.rules.specs.Judge.{Numbers, headOfNumbers, notMany, ranged, opOk, opOf, withOps, opsPlace, opsOfNumbers, numbersTest}
+use Rattle.rules.specs.Judge.{Numbers, headOfNumbers, notMany, ranged, opOk, opOfNumbers, withOps, opsPlace, opsOfNumbers, numbersTest}
 use Rattle.table.specs.Tables.{counted}
 use Rattle.table.specs.declared.Table as code
 
@@ -34,7 +34,7 @@ opThere ns at =
 
 -- the tests of one operation, whose numbers stand first, when `left` more may come and it would be written at a place
 unfoldable pub opTest : Table → List ℕ → ℕ → ℕ → Test
-opTest T ns left at = notMany at left then refuseIf (ltb (length ns) 6) SHORT at 0 then ranged (opOk T (opOf ns)) at
+opTest T ns left at = notMany at left then refuseIf (ltb (length ns) 6) SHORT at 0 then ranged (opOk T (opOfNumbers ns)) at
 
 -- the length and the counts of the code's table
 abbrev pub countsOf : code.Table → Table
@@ -49,12 +49,12 @@ unfoldable pub opsBehind : Table → List Op → List ℕ → ℕ → ℕ → Ve
 opsBehind H os ns left at = onwards (opsOfNumbers H ns left at) (λ us. accepted (withOps H (os ++ us)))
 
 -- the verdict on all the operations
-unfoldable pub opsVerdict : Table → List ℕ → Verdict Table
-opsVerdict H ns = onwards (opsOfNumbers H ns 32 (opsPlace (H .modes))) (λ os. accepted (withOps H os))
+unfoldable pub handedOps : Table → List ℕ → Verdict Table
+handedOps H ns = onwards (opsOfNumbers H ns 32 (opsPlace (H .modes))) (λ os. accepted (withOps H os))
 
 -- the judgement of the numbers without that of the pairs
 unfoldable pub numbersVerdict : Numbers → Verdict Table
-numbersVerdict N = numbersTest N then opsVerdict (headOfNumbers N) (N .ops)
+numbersVerdict N = numbersTest N then handedOps (headOfNumbers N) (N .ops)
 
 -- ---- numbers that fit the code's
 

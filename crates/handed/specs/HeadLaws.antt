@@ -22,7 +22,7 @@ use Rattle.fields.specs.FieldLaws.{ranged-no}
 use Rattle.fields.specs.Verdicts.{refusalOf}
 use Rattle.fields.specs.declared.Refusal.{Refusal}
 use Rattle.fields.specs.RefusalLaws.{then-refusal}
-use Rattle.handed.specs.Handed.{opsVerdict, numbersVerdict, SmallCounts, Small}
+use Rattle.handed.specs.Handed.{handedOps, numbersVerdict, SmallCounts, Small}
 
 -- ---- what stands before the operations
 
@@ -112,6 +112,6 @@ module _ (N : Numbers) where
   unfolding numbersVerdict
   verdict-refused q e = then-refusal q _ (sym e)
 
-  pub verdict-ops : numbersTest N ≡ accepted tt → numbersVerdict N ≡ opsVerdict (headOfNumbers N) (N .ops)
+  pub verdict-ops : numbersTest N ≡ accepted tt → numbersVerdict N ≡ handedOps (headOfNumbers N) (N .ops)
   unfolding numbersVerdict
   verdict-ops e = then-accepts _ e

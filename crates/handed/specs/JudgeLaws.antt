@@ -12,14 +12,14 @@ use Rattle.fields.specs.declared.Verdict.the-variants.{Refused}
 use Rattle.table.specs.Tables.{JudgedAs, tableOf, tableIn}
 use Rattle.table.specs.declared.Table as code
 use Rattle.table.specs.declared.Judged.{Judged}
-use Rattle.handed.specs.Handed.{opsVerdict, numbersVerdict}
+use Rattle.handed.specs.Handed.{handedOps, numbersVerdict}
 use Rattle.fields.specs.RefusalLaws.{refusal-is}
 use Rattle.table.specs.JudgedLaws.{Took, took-back, judged-refused}
 use Rattle.handed.specs.HeadLaws.{test-small}
 
 -- ---- the judgement of the numbers is that of the fields, and then that of the pairs
 pub numbers-pairs : (N : Numbers) → judgeNumbers N ≡ onwards (numbersVerdict N) judgeWhole
-unfolding judgeNumbers numbersVerdict opsVerdict
+unfolding judgeNumbers numbersVerdict handedOps
 numbers-pairs N =
     then-onwards (numbersTest N) (opsOfNumbers (headOfNumbers N) (N .ops) 32 (opsPlace (N .modes))) (withOps (headOfNumbers N)) judgeWhole
 
@@ -35,7 +35,7 @@ fields-refused N r q j e =
 
 module _ (N : Numbers) {t : code.Table} (took : Took (numbersVerdict N) t) where
   took-words : length (took .table .follow) ≡ took .table .modes
-  unfolding numbersVerdict opsVerdict
+  unfolding numbersVerdict handedOps
   took-words =
       let (os, come, same) = onwards-first _ _ (then-rest _ _ (took .said)) in
       let words = test-small N (then-first _ _ (took .said) .1) .words in

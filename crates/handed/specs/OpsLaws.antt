@@ -12,7 +12,7 @@ use lib.Seq.{getD-drop, drop-drop}
 use borrow.Author.Tests.{lt-ltb, le-ltb, eq-eqb, ne-eqb, ltb-false, eqb-false}
 use Rattle.rules.specs.Table.{Op, Table}
 use Rattle.rules.specs.Verdicts.{Verdict, accepted, refused, SHORT, MANY, refuseIf, _then_, onwards, more}
-use Rattle.rules.specs.Judge.{notMany, ranged, opOk, opOf, withOps, opsPlace, opsOfNumbers}
+use Rattle.rules.specs.Judge.{notMany, ranged, opOk, opOfNumbers, withOps, opsPlace, opsOfNumbers}
 use Rattle.theory.proofs.Verdicts.{passes, refuses, passed, then-accepts, then-refuses, then-first, then-rest, then-assoc}
 use Rattle.theory.proofs.Judging.{range-passed}
 use Rattle.fields.specs.Verdicts.{refusalOf}
@@ -23,11 +23,11 @@ use Rattle.table.specs.TableLaws.{with-op-in}
 use Rattle.table.specs.declared.Table as code
 use Rattle.fields.specs.RefusalLaws.{refusal-is}
 use Rattle.table.specs.JudgedLaws.{granted}
-use Rattle.handed.specs.Handed.{opThere, opTest, nextTest, opsBehind, opsVerdict, SmallCounts}
+use Rattle.handed.specs.Handed.{opThere, opTest, nextTest, opsBehind, handedOps, SmallCounts}
 
 -- ---- one operation
 
-pub op-there : (ns : List ℕ) (at : ℕ) → opThere ns at ≡ opOf (drop at ns)
+pub op-there : (ns : List ℕ) (at : ℕ) → opThere ns at ≡ opOfNumbers (drop at ns)
 op-there ns at = rw (getD-drop at ns 0 0, getD-drop at ns 1 0, getD-drop at ns 2 0, getD-drop at ns 3 0, getD-drop at ns 4 0, getD-drop at ns 5 0, add-zero)
 
 module _ (T : Table) (ns : List ℕ) (left at : ℕ) where
@@ -36,21 +36,21 @@ module _ (T : Table) (ns : List ℕ) (left at : ℕ) where
   op-many h = then-refuses _ (refuses _ MANY at 0 (eq-eqb left 0 h))
 
   module _ (some : 0 < left) where
-    to-short : opTest T ns left at ≡ (refuseIf (ltb (length ns) 6) SHORT at 0 then ranged (opOk T (opOf ns)) at)
+    to-short : opTest T ns left at ≡ (refuseIf (ltb (length ns) 6) SHORT at 0 then ranged (opOk T (opOfNumbers ns)) at)
     unfolding opTest notMany
     to-short = then-accepts _ (passes _ MANY at 0 (ne-eqb left 0 (λ e. omega arith)))
 
     pub op-short : length ns < 6 → opTest T ns left at ≡ refused SHORT at 0
     op-short h = to-short ∙ then-refuses _ (refuses _ SHORT at 0 (lt-ltb (length ns) 6 h))
 
-    pub op-whole : 6 ≤ length ns → opTest T ns left at ≡ ranged (opOk T (opOf ns)) at
+    pub op-whole : 6 ≤ length ns → opTest T ns left at ≡ ranged (opOk T (opOfNumbers ns)) at
     op-whole h = to-short ∙ then-accepts _ (passes _ SHORT at 0 (le-ltb (length ns) 6 h))
 
 -- an operation that passes: there is a place for it behind `count` others, its numbers are there, and they are in their ranges
 pub record Ready (T : Table) (ns : List ℕ) (at count : ℕ) : Type 0 where
   pub some : count < 32
   pub whole : at + 6 ≤ length ns
-  pub ranges : opOk T (opOf (drop at ns)) ≡ true
+  pub ranges : opOk T (opOfNumbers (drop at ns)) ≡ true
 
 positive : (n : ℕ) → (n ≡ 0 → ⊥) → 0 < n
 positive zero h = absurd (h refl)
@@ -68,7 +68,7 @@ op-ready T ns at count place e =
 ops-row : (T : Table) (ns : List ℕ) (left at : ℕ)
     → opsOfNumbers T ns left at
     ≡ cond (eqb (length ns) 0) (accepted [])
-    (opTest T ns left at then more (opOf ns) (opsOfNumbers T (drop 6 ns) (left - 1) (at + 21)))
+    (opTest T ns left at then more (opOfNumbers ns) (opsOfNumbers T (drop 6 ns) (left - 1) (at + 21)))
 unfolding opsOfNumbers opTest notMany refuseIf _then_
 ops-row T ns zero at = refl
 ops-row T ns (suc left) at =
@@ -88,7 +88,7 @@ module _ (H : Table) (os : List Op) (ns : List ℕ) (left at : ℕ) where
   behind-end h = rw (ops-row, eq-eqb (length ns) 0 h, append-nil)
 
   module _ (h : 0 < length ns) where
-    to-test : opsOfNumbers H ns left at ≡ (opTest H ns left at then more (opOf ns) (opsOfNumbers H (drop 6 ns) (left - 1) (at + 21)))
+    to-test : opsOfNumbers H ns left at ≡ (opTest H ns left at then more (opOfNumbers ns) (opsOfNumbers H (drop 6 ns) (left - 1) (at + 21)))
     to-test = ops-row H ns left at ∙ rw (ne-eqb (length ns) 0 (λ e. omega arith))
 
     pub behind-bad : {n a b : ℕ} → opTest H ns left at ≡ refused n a b → opsBehind H os ns left at ≡ refused n a b
@@ -96,9 +96,9 @@ module _ (H : Table) (os : List Op) (ns : List ℕ) (left at : ℕ) where
     behind-bad e = rw (to-test ∙ then-refuses _ e)
 
     pub behind-one : opTest H ns left at ≡ accepted tt
-        → opsBehind H os ns left at ≡ opsBehind H (os ++ (opOf ns ∷ [])) (drop 6 ns) (left - 1) (at + 21)
+        → opsBehind H os ns left at ≡ opsBehind H (os ++ (opOfNumbers ns ∷ [])) (drop 6 ns) (left - 1) (at + 21)
     unfolding opsBehind
-    behind-one e = rw (to-test ∙ then-accepts _ e) (onwards-more H os (opOf ns) _)
+    behind-one e = rw (to-test ∙ then-accepts _ e) (onwards-more H os (opOfNumbers ns) _)
 
 -- ---- the loop
 
@@ -109,11 +109,11 @@ pub record Taken (H : Table) (ns : List ℕ) (t : code.Table) (at place : ℕ) :
   pub few : length ops ≤ 32
   pub inside : at ≤ length ns
   pub here : place ≡ opsPlace (H .modes) + 21 * length ops
-  pub rest : opsVerdict H ns ≡ opsBehind H ops (drop at ns) (32 - length ops) place
+  pub rest : handedOps H ns ≡ opsBehind H ops (drop at ns) (32 - length ops) place
 
 module _ (H : Table) (ns : List ℕ) where
   pub taken-none : {t : code.Table} → t ≡ tableIn (withOps H []) → Taken H ns t 0 (opsPlace (H .modes))
-  unfolding opsVerdict opsBehind
+  unfolding handedOps opsBehind
   taken-none e = record { ops = []; held = e; few = omega arith; inside = omega arith; here = omega arith; rest = refl }
 
   module _ {t : code.Table} {at place : ℕ} (k : Taken H ns t at place) where
@@ -125,16 +125,16 @@ module _ (H : Table) (ns : List ℕ) where
     unfolding opTest opOk
     taken-test ms = rw (k .held)
 
-    pub taken-end : length ns ≤ at → JudgedAs (opsVerdict H ns) (record { verdict = Accepted; table = t })
+    pub taken-end : length ns ≤ at → JudgedAs (handedOps H ns) (record { verdict = Accepted; table = t })
     taken-end h =
         granted (withOps H (k .ops)) (k .rest ∙ behind-end H (k .ops) (drop at ns) _ place (omega (arith, length-drop at ns))) (k .held)
 
     module _ (some : at < length ns) where
       abbrev next : Op
-      next = opOf (drop at ns)
+      next = opOfNumbers (drop at ns)
 
       pub taken-bad : (q : Refusal) → refusalOf q ≡ nextTest t (drop at ns) place
-          → opsVerdict H ns ≡ refusalOf q
+          → handedOps H ns ≡ refusalOf q
       taken-bad q e =
           let (n, a, b, x, y) = refusal-is {A = Unit {0}} {B = Table} q in
           k .rest

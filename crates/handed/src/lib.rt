@@ -3,10 +3,10 @@ ghost use mathlib.Core.Path.{_≡_};
 ghost use Prim.Native.Nat.{_+_, _≤_};
 ghost use mathlib.Core.Bool.{true};
 ghost use lib.ListN.{length, drop};
-ghost use Rattle.rules.specs.Judge.{numbersTest, eachSetOk, opOf, opOk, judgeWhole, judgeNumbers};
+ghost use Rattle.rules.specs.Judge.{numbersTest, eachSetOk, opOfNumbers, opOk, judgeWhole, judgeNumbers};
 ghost use Rattle.fields.specs.Verdicts.{tested, refusalOf};
 ghost use Rattle.table.specs.Tables.{JudgedAs, padded, tableOf, tableIn, wideOf, opIn};
-ghost use Rattle.handed.specs.Handed.{numbers, head, opThere, countsOf, nextTest, opsVerdict, numbersVerdict, SmallCounts, SmallWords, Small};
+ghost use Rattle.handed.specs.Handed.{numbers, head, opThere, countsOf, nextTest, handedOps, numbersVerdict, SmallCounts, SmallWords, Small};
 use fields::Refusal;
 use fields::Verdict;
 use table::Judged;
@@ -146,8 +146,8 @@ fn op_test(t: Table, ops: &[u64], at: usize, place: usize) -> Verdict
 
 // The operation that stands there, when it has passed.
 fn op_at(t: Table, ops: &[u64], at: usize) -> Op
-    requires { ⌜ (at + 6 ≤ length (now ops)) × SmallCounts (t .boards) (t .cells) (t .modes) × (opOk (countsOf t) (opOf (drop at (now ops))) ≡ true) ⌝ }
-    ensures { λ r. ⌜ r ≡ opIn (opOf (drop at (now (ops .entry)))) ⌝ }
+    requires { ⌜ (at + 6 ≤ length (now ops)) × SmallCounts (t .boards) (t .cells) (t .modes) × (opOk (countsOf t) (opOfNumbers (drop at (now ops))) ≡ true) ⌝ }
+    ensures { λ r. ⌜ r ≡ opIn (opOfNumbers (drop at (now (ops .entry)))) ⌝ }
 {
     let w = wide_at(ops, at);
     table::narrow(t.len, t.boards, t.cells, t.modes, w)
@@ -164,7 +164,7 @@ fn take_ops(
     ops: &[u64],
 ) -> Judged
     requires { ⌜ Small (head p boards cells modes first (now follow)) ⌝ }
-    ensures { λ r. ⌜ JudgedAs (opsVerdict (head p boards cells modes first (now (follow .entry))) (now (ops .entry))) r ⌝ }
+    ensures { λ r. ⌜ JudgedAs (handedOps (head p boards cells modes first (now (follow .entry))) (now (ops .entry))) r ⌝ }
 {
     let mut t = head_of(p, boards, cells, modes, first, follow);
     let mut at: usize = 0;

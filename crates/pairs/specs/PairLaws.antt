@@ -12,7 +12,7 @@ use Rattle.rules.specs.Verdicts.{accepted, refused}
 use Rattle.rules.specs.Judge.{pairsTest}
 use Rattle.theory.proofs.Judging.{pairs-accepted, pairs-first}
 use Rattle.theory.proofs.Order.{Cmp, cmp}
-use Rattle.table.specs.Tables.{opOf, tableOf, noOp}
+use Rattle.table.specs.Tables.{opOf, tableOf, blankOp}
 use Rattle.table.specs.TableLaws.{op-at, nops-count}
 use Rattle.table.specs.declared.Table.{Table}
 
@@ -27,7 +27,7 @@ is-not {r} e h = sym e ∙ not-true r h
 module _ (hit : rules.Op → rules.Op → Bool) (t : Table) where
   -- the hit of operations i and j
   abbrev pub hitAt : ℕ → ℕ → Bool
-  hitAt i j = hit (opOf (getD (t .ops) i noOp)) (opOf (getD (t .ops) j noOp))
+  hitAt i j = hit (opOf (getD (t .ops) i blankOp)) (opOf (getD (t .ops) j blankOp))
 
   -- no pair with a first number below i is hit
   unfoldable pub RowsClear : ℕ → Type 0

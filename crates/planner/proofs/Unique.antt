@@ -7,28 +7,28 @@ use Rattle.rules.specs.Judge.{Numbers}
 use Rattle.rules.specs.Answers.{IsPlan, IsFold, IsUnfold, IsWrite, IsMargin, IsRight}
 use Rattle.theory.proofs.Answering.{plan-unique, fold-unique, unfold-unique, write-unique, margin-unique, right-unique}
 use Rattle.fields.specs.declared.Answer.{Answer}
-use Rattle.fields.specs.Verdicts.{answered, left}
-use Rattle.fields.proofs.Told.{no-refusal, refusal-one, left-one}
+use Rattle.fields.specs.Verdicts.{answered, leaving}
+use Rattle.fields.proofs.Told.{no-refusal, refusal-one, leaving-one}
 use Rattle.questions.specs.declared.Measured.{Measured}
 use Rattle.questions.specs.declared.Measured.the-variants as measured
-use Rattle.questions.specs.declared.Said.{Said}
-use Rattle.questions.specs.declared.Said.the-variants as said
-use Rattle.questions.specs.Questions.{measuredOf, saidOf}
+use Rattle.questions.specs.declared.Truth.{Truth}
+use Rattle.questions.specs.declared.Truth.the-variants as truth
+use Rattle.questions.specs.Questions.{measuredOf, truthOf}
 
 -- ---- functions that write
 
 module _ (x y : Answer) (end fin : List ℕ) where
-  pub plan-one : (s out : List ℕ) → IsPlan s out (left (answered x) end) → IsPlan s out (left (answered y) fin) → (x ≡ y) × (end ≡ fin)
-  plan-one s out p q = left-one x y end fin (plan-unique s out _ _ p q)
+  pub plan-one : (s out : List ℕ) → IsPlan s out (leaving (answered x) end) → IsPlan s out (leaving (answered y) fin) → (x ≡ y) × (end ≡ fin)
+  plan-one s out p q = leaving-one x y end fin (plan-unique s out _ _ p q)
 
-  pub fold-one : (s out : List ℕ) → IsFold s out (left (answered x) end) → IsFold s out (left (answered y) fin) → (x ≡ y) × (end ≡ fin)
-  fold-one s out p q = left-one x y end fin (fold-unique s out _ _ p q)
+  pub fold-one : (s out : List ℕ) → IsFold s out (leaving (answered x) end) → IsFold s out (leaving (answered y) fin) → (x ≡ y) × (end ≡ fin)
+  fold-one s out p q = leaving-one x y end fin (fold-unique s out _ _ p q)
 
-  pub unfold-one : (s out : List ℕ) → IsUnfold s out (left (answered x) end) → IsUnfold s out (left (answered y) fin) → (x ≡ y) × (end ≡ fin)
-  unfold-one s out p q = left-one x y end fin (unfold-unique s out _ _ p q)
+  pub unfold-one : (s out : List ℕ) → IsUnfold s out (leaving (answered x) end) → IsUnfold s out (leaving (answered y) fin) → (x ≡ y) × (end ≡ fin)
+  unfold-one s out p q = leaving-one x y end fin (unfold-unique s out _ _ p q)
 
-  pub write-one : (N : Numbers) (out : List ℕ) → IsWrite N out (left (answered x) end) → IsWrite N out (left (answered y) fin) → (x ≡ y) × (end ≡ fin)
-  write-one N out p q = left-one x y end fin (write-unique N out _ _ p q)
+  pub write-one : (N : Numbers) (out : List ℕ) → IsWrite N out (leaving (answered x) end) → IsWrite N out (leaving (answered y) fin) → (x ≡ y) × (end ≡ fin)
+  write-one N out p q = leaving-one x y end fin (write-unique N out _ _ p q)
 
 -- ---- questions
 
@@ -38,14 +38,14 @@ measured-one (measured.Margin z) (measured.Denied r) e = no-refusal r e
 measured-one (measured.Denied r) (measured.Margin z) e = no-refusal r (sym e)
 measured-one (measured.Denied r) (measured.Denied s) e = ap measured.Denied (refusal-one r s e)
 
-said-one : (x y : Said) → saidOf x ≡ saidOf y → x ≡ y
-said-one (said.Right b) (said.Right c) e = let same : b ≡ c = cc in ap said.Right same
-said-one (said.Right b) (said.Denied r) e = no-refusal r e
-said-one (said.Denied r) (said.Right b) e = no-refusal r (sym e)
-said-one (said.Denied r) (said.Denied s) e = ap said.Denied (refusal-one r s e)
+truth-one : (x y : Truth) → truthOf x ≡ truthOf y → x ≡ y
+truth-one (truth.Is b) (truth.Is c) e = let same : b ≡ c = cc in ap truth.Is same
+truth-one (truth.Is b) (truth.Denied r) e = no-refusal r e
+truth-one (truth.Denied r) (truth.Is b) e = no-refusal r (sym e)
+truth-one (truth.Denied r) (truth.Denied s) e = ap truth.Denied (refusal-one r s e)
 
 pub margin-one : (x y : Measured) (s : List ℕ) (i j n q : ℕ) → IsMargin s i j n q (measuredOf x) → IsMargin s i j n q (measuredOf y) → x ≡ y
 margin-one x y s i j n q p r = measured-one x y (margin-unique s i j n q _ _ p r)
 
-pub right-one : (x y : Said) (s : List ℕ) (q : ℕ) → IsRight s q (saidOf x) → IsRight s q (saidOf y) → x ≡ y
-right-one x y s q p r = said-one x y (right-unique s q _ _ p r)
+pub right-one : (x y : Truth) (s : List ℕ) (q : ℕ) → IsRight s q (truthOf x) → IsRight s q (truthOf y) → x ≡ y
+right-one x y s q p r = truth-one x y (right-unique s q _ _ p r)

@@ -17,7 +17,7 @@ use Rattle.theory.specs.Tests.{periodOf}
 use Rattle.theory.proofs.Bytes.{reply-length}
 use Rattle.theory.proofs.Exists.{period-found}
 use Rattle.theory.proofs.Answering.{put-room, put-short}
-use Rattle.fields.specs.Verdicts.{refusalOf, left}
+use Rattle.fields.specs.Verdicts.{refusalOf, leaving}
 use Rattle.fields.specs.declared.Refusal.{Refusal}
 use Rattle.fields.specs.RefusalLaws.{refusal-is}
 
@@ -35,34 +35,34 @@ unfolding replyOf
 reply-size T q = reply-length (replyOf T q) ∙ rw (length-map (T .ops) _)
 
 module _ (T : Table) (out : List ℕ) where
-  pub plans-short : Accepted T → (n : ℕ) → n ≡ 5 + 7 * nops T → length out < n → Plans T out (left (refused ROOM n 0) out)
+  pub plans-short : Accepted T → (n : ℕ) → n ≡ 5 + 7 * nops T → length out < n → Plans T out (leaving (refused ROOM n 0) out)
   plans-short ok n e h =
       let q = periodOf T in
       let size = reply-size T q in (
         q,
         period-found T ok,
-        ap (λ (m : ℕ). left (refused ROOM m 0) out) (e ∙ sym size) ∙ sym (put-short (replyBytes (replyOf T q)) out (omega arith)),
+        ap (λ (m : ℕ). leaving (refused ROOM m 0) out) (e ∙ sym size) ∙ sym (put-short (replyBytes (replyOf T q)) out (omega arith)),
       )
 
   pub plans-room : (q n : ℕ) (end : List ℕ) → IsPeriod T q → n ≡ 5 + 7 * nops T → n ≤ length out
-      → end ≡ replyBytes (replyOf T q) ++ drop n out → Plans T out (left (accepted n) end)
+      → end ≡ replyBytes (replyOf T q) ++ drop n out → Plans T out (leaving (accepted n) end)
   plans-room q n end period e h f =
       let size : n ≡ length (replyBytes (replyOf T q)) = e ∙ sym (reply-size T q) in (
         q,
         period,
-        ap (left (accepted n)) f
-            ∙ ap (λ (m : ℕ). left (accepted m) (replyBytes (replyOf T q) ++ drop m out)) size
+        ap (leaving (accepted n)) f
+            ∙ ap (λ (m : ℕ). leaving (accepted m) (replyBytes (replyOf T q) ++ drop m out)) size
             ∙ sym (put-room (replyBytes (replyOf T q)) out (omega arith)),
       )
 
 -- a refusal of the table is the answer, and the buffer stays
-pub plan-refused : (s out : List ℕ) (r : Refusal) → judge s ≡ refusalOf r → IsPlan s out (left (refusalOf r) out)
+pub plan-refused : (s out : List ℕ) (r : Refusal) → judge s ≡ refusalOf r → IsPlan s out (leaving (refusalOf r) out)
 unfolding Answers bytesOf written onwards
 plan-refused s out r e =
     let (n, a, b, x, y) = refusal-is {A = ℕ} {B = Table} r in (
       refused n a b,
       subst⁻¹ (λ (u : Verdict Table). Answers Planned u (refused n a b)) (e ∙ y) refl,
-      ap (λ (u : Verdict ℕ). left u out) x,
+      ap (λ (u : Verdict ℕ). leaving u out) x,
     )
 
 -- the reply to an accepted table is the answer

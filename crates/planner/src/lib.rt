@@ -1,15 +1,15 @@
 // The planner: the public functions. Each promise is a definition of `rules` about the answer, told in document 01's numbers.
 ghost use Rattle.rules.specs.Answers.{IsPlan, IsFold, IsUnfold, IsMargin, IsRight, IsWrite};
-ghost use Rattle.fields.specs.Verdicts.{answered, left};
+ghost use Rattle.fields.specs.Verdicts.{answered, leaving};
 ghost use Rattle.table.specs.Tables.{tableOf, Good};
 ghost use Rattle.handed.specs.Handed.{numbers};
-ghost use Rattle.questions.specs.Questions.{measuredOf, saidOf};
+ghost use Rattle.questions.specs.Questions.{measuredOf, truthOf};
 ghost use Rattle.planner.specs.Plans.{Plans, Folds};
 use fields::Answer;
 use fields::Refusal;
 use fields::Verdict;
 use questions::Measured;
-use questions::Said;
+use questions::Truth;
 use table::Table;
 
 // ---- a table's bytes in, its reply's bytes out
@@ -17,7 +17,7 @@ use table::Table;
 // The reply to an accepted table, or ROOM.
 fn plan_table(t: Table, out: &mut [u8]) -> Answer
     requires { ⌜ Good t ⌝ }
-    ensures { λ r. ⌜ Plans (tableOf t) (now (out .entry)) (left (answered r) (now (out .exit))) ⌝ }
+    ensures { λ r. ⌜ Plans (tableOf t) (now (out .entry)) (leaving (answered r) (now (out .exit))) ⌝ }
 {
     let needed = 5 + 7 * t.count;
     if out.len() < needed {
@@ -30,7 +30,7 @@ fn plan_table(t: Table, out: &mut [u8]) -> Answer
 
 // A table's reply: its period and rows, from the front of the buffer. On a refusal every byte of it stays.
 pub fn plan(s: &[u8], out: &mut [u8]) -> Answer
-    ensures { λ r. ⌜ IsPlan (now (s .entry)) (now (out .entry)) (left (answered r) (now (out .exit))) ⌝ }
+    ensures { λ r. ⌜ IsPlan (now (s .entry)) (now (out .entry)) (leaving (answered r) (now (out .exit))) ⌝ }
 {
     let judged = reading::read(s);
     let verdict = judged.verdict;
@@ -45,7 +45,7 @@ pub fn plan(s: &[u8], out: &mut [u8]) -> Answer
 // The text of an accepted table's reply, or ROOM.
 fn fold_table(t: Table, out: &mut [u8]) -> Answer
     requires { ⌜ Good t ⌝ }
-    ensures { λ r. ⌜ Folds (tableOf t) (now (out .entry)) (left (answered r) (now (out .exit))) ⌝ }
+    ensures { λ r. ⌜ Folds (tableOf t) (now (out .entry)) (leaving (answered r) (now (out .exit))) ⌝ }
 {
     let q = period::smallest(t);
     text::put_reply(out, t, q)
@@ -53,7 +53,7 @@ fn fold_table(t: Table, out: &mut [u8]) -> Answer
 
 // What the program `fold` prints: the period and the rows, or the refusal's line. On ROOM every byte of the buffer stays.
 pub fn fold(s: &[u8], out: &mut [u8]) -> Answer
-    ensures { λ r. ⌜ IsFold (now (s .entry)) (now (out .entry)) (left (answered r) (now (out .exit))) ⌝ }
+    ensures { λ r. ⌜ IsFold (now (s .entry)) (now (out .entry)) (leaving (answered r) (now (out .exit))) ⌝ }
 {
     let judged = reading::read(s);
     let verdict = judged.verdict;
@@ -67,7 +67,7 @@ pub fn fold(s: &[u8], out: &mut [u8]) -> Answer
 
 // The starts that a reply's rows came from, 2 bytes each. On a refusal every byte of the buffer stays.
 pub fn unfold(s: &[u8], out: &mut [u8]) -> Answer
-    ensures { λ r. ⌜ IsUnfold (now (s .entry)) (now (out .entry)) (left (answered r) (now (out .exit))) ⌝ }
+    ensures { λ r. ⌜ IsUnfold (now (s .entry)) (now (out .entry)) (leaving (answered r) (now (out .exit))) ⌝ }
 {
     starts::unfold(s, out)
 }
@@ -80,8 +80,8 @@ pub fn margin(s: &[u8], i: u64, j: u64, n: u64, q: u64) -> Measured
 }
 
 // Whether q is a right period.
-pub fn is_right(s: &[u8], q: u64) -> Said
-    ensures { λ r. ⌜ IsRight (now (s .entry)) q (saidOf r) ⌝ }
+pub fn is_right(s: &[u8], q: u64) -> Truth
+    ensures { λ r. ⌜ IsRight (now (s .entry)) q (truthOf r) ⌝ }
 {
     questions::is_right(s, q)
 }
@@ -97,7 +97,7 @@ pub fn write_table(
     ops: &[u64],
     out: &mut [u8],
 ) -> Answer
-    ensures { λ r. ⌜ IsWrite (numbers p boards cells modes first (now (follow .entry)) (now (ops .entry))) (now (out .entry)) (left (answered r) (now (out .exit))) ⌝ }
+    ensures { λ r. ⌜ IsWrite (numbers p boards cells modes first (now (follow .entry)) (now (ops .entry))) (now (out .entry)) (leaving (answered r) (now (out .exit))) ⌝ }
 {
     writing::write(p, boards, cells, modes, first, follow, ops, out)
 }

@@ -9,16 +9,16 @@ use Rattle.fields.specs.Verdicts.{refusalOf}
 use Rattle.table.specs.declared.Op.{Op}
 use Rattle.questions.specs.declared.Measured.{Measured}
 use Rattle.questions.specs.declared.Measured.the-variants as measured
-use Rattle.questions.specs.declared.Said.{Said}
-use Rattle.questions.specs.declared.Said.the-variants as said
+use Rattle.questions.specs.declared.Truth.{Truth}
+use Rattle.questions.specs.declared.Truth.the-variants as truth
 
 abbrev pub measuredOf : Measured → rules.Verdict ℤ
 measuredOf (measured.Margin z) = accepted z
 measuredOf (measured.Denied r) = refusalOf r
 
-abbrev pub saidOf : Said → rules.Verdict Bool
-saidOf (said.Right b) = accepted b
-saidOf (said.Denied r) = refusalOf r
+abbrev pub truthOf : Truth → rules.Verdict Bool
+truthOf (truth.Is b) = accepted b
+truthOf (truth.Denied r) = refusalOf r
 
 -- an operation that ends by 1000
 abbrev pub Short : ℕ → ℕ → Type 0

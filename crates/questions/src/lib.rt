@@ -8,7 +8,7 @@ ghost use Rattle.rules.specs.Judge.{judge};
 ghost use Rattle.rules.specs.Answers.{Answers, marginTest, periodAsked, RightSaid, IsMargin, IsRight};
 ghost use Rattle.fields.specs.Verdicts.{answered};
 ghost use Rattle.table.specs.Tables.{tableOf, Good};
-ghost use Rattle.questions.specs.Questions.{measuredOf, saidOf, Short, gap};
+ghost use Rattle.questions.specs.Questions.{measuredOf, truthOf, Short, gap};
 use fields::Answer;
 use fields::Refusal;
 use fields::Verdict;
@@ -20,8 +20,8 @@ pub enum Measured {
     Denied(Refusal),
 }
 
-pub enum Said {
-    Right(bool),
+pub enum Truth {
+    Is(bool),
     Denied(Refusal),
 }
 
@@ -81,28 +81,28 @@ pub fn margin(s: &[u8], i: u64, j: u64, n: u64, q: u64) -> Measured
 // ---- is q right
 
 // Whether q is right for an accepted table, or ASK.
-fn right_of(t: Table, q: u64) -> Said
+fn right_of(t: Table, q: u64) -> Truth
     requires { ⌜ Good t ⌝ }
-    ensures { λ r. ⌜ Answers (RightSaid q) (periodAsked (tableOf t) q 0 then accepted (tableOf t)) (saidOf r) ⌝ }
+    ensures { λ r. ⌜ Answers (RightSaid q) (periodAsked (tableOf t) q 0 then accepted (tableOf t)) (truthOf r) ⌝ }
 {
     let len = t.len as u64;
     if q < 1 {
-        return Said::Denied(Refusal::Ask(0));
+        return Truth::Denied(Refusal::Ask(0));
     }
     if len < q {
-        return Said::Denied(Refusal::Ask(0));
+        return Truth::Denied(Refusal::Ask(0));
     }
-    Said::Right(period::is_right(t, q as u32))
+    Truth::Is(period::is_right(t, q as u32))
 }
 
 // Whether q is a right period.
-pub fn is_right(s: &[u8], q: u64) -> Said
-    ensures { λ r. ⌜ IsRight (now (s .entry)) q (saidOf r) ⌝ }
+pub fn is_right(s: &[u8], q: u64) -> Truth
+    ensures { λ r. ⌜ IsRight (now (s .entry)) q (truthOf r) ⌝ }
 {
     let judged = reading::read(s);
     let verdict = judged.verdict;
     match verdict {
-        Verdict::Refused(r) => Said::Denied(r),
+        Verdict::Refused(r) => Truth::Denied(r),
         Verdict::Accepted => right_of(judged.table, q),
     }
 }

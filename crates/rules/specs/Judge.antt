@@ -189,8 +189,8 @@ pub record Numbers : Type 0 where
   pub ops : List ℕ
 
 -- the operation whose six numbers stand first
-abbrev pub opOf : List ℕ → Op
-opOf ns =
+abbrev pub opOfNumbers : List ℕ → Op
+opOfNumbers ns =
     record {
       start = getD ns 0 0;
       dur = getD ns 1 0;
@@ -232,8 +232,8 @@ opsOfNumbers T ns zero at = cond (eqb (length ns) 0) (accepted []) (notMany at 0
 opsOfNumbers T ns (suc left) at =
     cond (eqb (length ns) 0) (accepted [])
     (refuseIf (ltb (length ns) 6) SHORT at 0
-    then ranged (opOk T (opOf ns)) at
-    then more (opOf ns) (opsOfNumbers T (drop 6 ns) left (at + 21)))
+    then ranged (opOk T (opOfNumbers ns)) at
+    then more (opOfNumbers ns) (opsOfNumbers T (drop 6 ns) left (at + 21)))
 
 unfoldable pub judgeNumbers : Numbers → Verdict Table
 unfolding numbersTest opsOfNumbers judgeWhole onwards _then_

@@ -16,7 +16,7 @@ use Rattle.theory.proofs.Replies.{ReplyIn, reply-row, reply-in}
 use Rattle.theory.proofs.Bytes.{joined-length, no-field}
 use Rattle.theory.proofs.Answering.{put-room, put-short}
 use Rattle.fields.specs.declared.Refusal.{Refusal}
-use Rattle.fields.specs.Verdicts.{refusalOf, left}
+use Rattle.fields.specs.Verdicts.{refusalOf, leaving}
 use Rattle.fields.specs.RefusalLaws.{refusal-is, then-refusal, onwards-refusal, heard-refusal}
 use Rattle.fields.specs.FieldLaws.{needed-no, needed-yes}
 use Rattle.reading.specs.Reading.{lenTest}
@@ -135,13 +135,13 @@ module _ (s out : List ℕ) where
       (f ∙ ap (λ (t : Ticks). stored mid (2 * i) (start-bytes t)) (sym (starts-at is i (omega (arith, is .size)))))
 
   module _ (n : ℕ) (size : length s ≡ 5 + 7 * n) where
-    pub unfolds-short : length out < 2 * n → Unfolds s out (left (refused ROOM (2 * n) 0) out)
+    pub unfolds-short : length out < 2 * n → Unfolds s out (leaving (refused ROOM (2 * n) 0) out)
     unfolds-short h R read =
         let is = reply-in s R read in
         let long : 2 * n ≡ length (startsBytes (startsOf R)) = omega (arith, starts-size is, is .size) in
-        ap (λ (m : ℕ). left (refused ROOM m 0) out) long ∙ sym (put-short (startsBytes (startsOf R)) out (omega arith))
+        ap (λ (m : ℕ). leaving (refused ROOM m 0) out) long ∙ sym (put-short (startsBytes (startsOf R)) out (omega arith))
 
-    pub unfolds-room : (end : List ℕ) → 2 * n ≤ length out → StartsStored s n out end → Unfolds s out (left (accepted (2 * n)) end)
+    pub unfolds-room : (end : List ℕ) → 2 * n ≤ length out → StartsStored s n out end → Unfolds s out (leaving (accepted (2 * n)) end)
     unfolding StartsStored
     unfolds-room end h e R read =
         let is = reply-in s R read in
@@ -149,16 +149,16 @@ module _ (s out : List ℕ) where
         let long : 2 * n ≡ length bytes = omega (arith, starts-size is, is .size) in
         let all : take n (startsOf R) ≡ startsOf R = take-all n (startsOf R) (omega (arith, starts-count is, is .size)) in
         let stands : end ≡ bytes ++ drop (length bytes) out = e R read ∙ ap (λ (ts : List Ticks). stored out 0 (startsBytes ts)) all ∙ stored-front out bytes (omega arith) in
-        ap (left (accepted (2 * n))) stands
-        ∙ ap (λ (m : ℕ). left (accepted m) (bytes ++ drop (length bytes) out)) long
+        ap (leaving (accepted (2 * n))) stands
+        ∙ ap (λ (m : ℕ). leaving (accepted m) (bytes ++ drop (length bytes) out)) long
         ∙ sym (put-room bytes out (omega arith))
 
   -- a refusal of the reply is the answer, and the buffer stays
-  pub unfold-refused : (r : Refusal) → refusalOf r ≡ heard (judgeReply s) → IsUnfold s out (left (refusalOf r) out)
+  pub unfold-refused : (r : Refusal) → refusalOf r ≡ heard (judgeReply s) → IsUnfold s out (leaving (refusalOf r) out)
   unfolding heard written bytesOf onwards
   unfold-refused r e =
       let (n, a, b, x, y) = refusal-is {A = ℕ} {B = Reply} r in
-      ap (λ (u : Verdict ℕ). left u out) x ∙ sym (ap (λ (v : Verdict Reply). written (bytesOf (λ R. startsBytes (startsOf R)) v) out) (heard-refusal (judgeReply s) r e ∙ y))
+      ap (λ (u : Verdict ℕ). leaving u out) x ∙ sym (ap (λ (v : Verdict Reply). written (bytesOf (λ R. startsBytes (startsOf R)) v) out) (heard-refusal (judgeReply s) r e ∙ y))
 
   -- the starts of an accepted reply are the answer
   pub unfold-accepted : (w : Written) → heard (judgeReply s) ≡ accepted tt → Unfolds s out w → IsUnfold s out w

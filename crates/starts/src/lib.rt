@@ -7,7 +7,7 @@ ghost use Rattle.rules.specs.Verdicts.{accepted};
 ghost use Rattle.rules.specs.Bytes.{num16, rowAt};
 ghost use Rattle.rules.specs.Judge.{repeatTest, rowOk, rowsFrom, judgeReply};
 ghost use Rattle.rules.specs.Answers.{IsUnfold};
-ghost use Rattle.fields.specs.Verdicts.{tested, answered, left};
+ghost use Rattle.fields.specs.Verdicts.{tested, answered, leaving};
 ghost use Rattle.rows.specs.Rows.{rowOf};
 ghost use Rattle.starts.specs.Starts.{heard, Unfolds, StartsStored};
 use fields::Answer;
@@ -115,7 +115,7 @@ fn put_starts(s: &[u8], out: &mut [u8], n: usize)
 // The starts of a reply that is accepted, or ROOM.
 fn unfold_reply(s: &[u8], out: &mut [u8]) -> Answer
     requires { ⌜ heard (judgeReply (now s)) ≡ accepted tt ⌝ }
-    ensures { λ r. ⌜ Unfolds (now (s .entry)) (now (out .entry)) (left (answered r) (now (out .exit))) ⌝ }
+    ensures { λ r. ⌜ Unfolds (now (s .entry)) (now (out .entry)) (leaving (answered r) (now (out .exit))) ⌝ }
 {
     let n = (s.len() - 5) / 7;
     if out.len() < 2 * n {
@@ -127,7 +127,7 @@ fn unfold_reply(s: &[u8], out: &mut [u8]) -> Answer
 
 // The starts that a reply's rows came from, 2 bytes each. On a refusal every byte of the buffer stays.
 pub fn unfold(s: &[u8], out: &mut [u8]) -> Answer
-    ensures { λ r. ⌜ IsUnfold (now (s .entry)) (now (out .entry)) (left (answered r) (now (out .exit))) ⌝ }
+    ensures { λ r. ⌜ IsUnfold (now (s .entry)) (now (out .entry)) (leaving (answered r) (now (out .exit))) ⌝ }
 {
     let v = judge(s);
     match v {

@@ -13,7 +13,7 @@ use borrow.Author.Tests.{lt-leb, le-leb}
 use Rattle.rules.specs.Table as rules
 use Rattle.rules.specs.Judge.{opOk, setOk, withOps}
 use Rattle.theory.proofs.Judging.{says-op}
-use Rattle.table.specs.Tables.{opOf, opIn, noOp, padded, tableOf, tableIn, withOp, Good}
+use Rattle.table.specs.Tables.{opOf, opIn, blankOp, padded, tableOf, tableIn, withOp, Good}
 use Rattle.table.specs.declared.Op.{Op}
 use Rattle.table.specs.declared.Table.{Table}
 
@@ -81,7 +81,7 @@ pub table-back : (T : rules.Table) → length (T .follow) ≡ T .modes → table
 table-back T e =
     rw (
       take-padded 32 0 (T .follow) (T .modes) (sym e),
-      take-padded 32 noOp (map opIn (T .ops)) (length (T .ops)) (sym (length-map (T .ops) opIn)),
+      take-padded 32 blankOp (map opIn (T .ops)) (length (T .ops)) (sym (length-map (T .ops) opIn)),
       ops-back (T .ops),
     )
 
@@ -94,7 +94,7 @@ pub with-op-in : (T : rules.Table) (os : List rules.Op) (o : rules.Op) → lengt
     → withOp (tableIn (withOps T os)) (opIn o) ≡ tableIn (withOps T (os ++ (o ∷ [])))
 with-op-in T os o h =
     rw (
-      set-padded 32 noOp (map opIn os) (opIn o) (length os) (sym (length-map os opIn)) h,
+      set-padded 32 blankOp (map opIn os) (opIn o) (length os) (sym (length-map os opIn)) h,
       map-snoc os o,
       length-append os (o ∷ []),
     )
@@ -106,8 +106,8 @@ good-in T ok =
     record { accepted = subst⁻¹ (λ (U : rules.Table). rules.Accepted U) e ok; tidy = ap tableIn (sym e) }
 
 -- ---- the operations that count
-pub op-at : (t : Table) (i : ℕ) → i < t .count → rules.op (tableOf t) i ≡ opOf (getD (t .ops) i noOp)
-op-at t i h = List·getD-map opOf (take (t .count) (t .ops)) i noOp ∙ ap opOf (getD-take (t .count) (t .ops) i noOp h)
+pub op-at : (t : Table) (i : ℕ) → i < t .count → rules.op (tableOf t) i ≡ opOf (getD (t .ops) i blankOp)
+op-at t i h = List·getD-map opOf (take (t .count) (t .ops)) i blankOp ∙ ap opOf (getD-take (t .count) (t .ops) i blankOp h)
 
 pub nops-count : (t : Table) → t .count ≤ length (t .ops) → rules.nops (tableOf t) ≡ t .count
 nops-count t h = length-map (take (t .count) (t .ops)) opOf ∙ length-take-le (t .count) (t .ops) h
@@ -118,5 +118,5 @@ good-count t good = ap (λ (u : Table). u .count) (good .tidy)
 pub good-few : (t : Table) → Good t → t .count ≤ 32
 good-few t good = omega (arith, good-count t good, good .accepted .ops-high)
 
-pub good-op : (t : Table) → Good t → (i : ℕ) → i < t .count → rules.OpOk (tableOf t) (opOf (getD (t .ops) i noOp))
+pub good-op : (t : Table) → Good t → (i : ℕ) → i < t .count → rules.OpOk (tableOf t) (opOf (getD (t .ops) i blankOp))
 good-op t good i h = rw (← op-at t i h) (good .accepted .each i (omega (arith, good-count t good)))

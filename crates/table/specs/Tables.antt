@@ -69,8 +69,8 @@ opIn o =
       modes = o .modes;
     }
 
-abbrev pub noOp : Op
-noOp = opIn rules.noOp
+abbrev pub blankOp : Op
+blankOp = opIn rules.noOp
 
 -- as many as n, filled up with d
 unfoldable pub padded : {A : Type 0} → ℕ → A → List A → List A
@@ -85,7 +85,7 @@ tableIn T =
       modes = T .modes;
       first = T .first;
       follow = padded 32 0 (T .follow);
-      ops = padded 32 noOp (map opIn (T .ops));
+      ops = padded 32 blankOp (map opIn (T .ops));
       count = nops T;
     }
 
@@ -99,7 +99,7 @@ noTable =
       modes = 0;
       first = 0;
       follow = replicate 32 0;
-      ops = replicate 32 noOp;
+      ops = replicate 32 blankOp;
       count = 0;
     }
 

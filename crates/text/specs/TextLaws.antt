@@ -15,7 +15,7 @@ use Rattle.rules.specs.Text.{decimal, periodWord, newline, rowLine, rowLines, p
 use Rattle.rules.specs.Answers.{Written, put}
 use Rattle.theory.proofs.Text.{decimal-small, decimal-more, period-line, row-short, period-short, rows-none, rows-snoc}
 use Rattle.theory.proofs.Answering.{put-room, put-short}
-use Rattle.fields.specs.Verdicts.{left}
+use Rattle.fields.specs.Verdicts.{leaving}
 use Rattle.puts.specs.Puts.{stored}
 use Rattle.puts.specs.PutLaws.{stored-length, stored-then, stored-front}
 use Rattle.replies.specs.Replies.{rowIn}
@@ -151,8 +151,8 @@ module _ (own text : List ℕ) {end : List ℕ} {n : ℕ} (h : 0 + length text �
 
 -- ---- a text put from the front of a buffer
 module _ (text out : List ℕ) where
-  pub text-short : length out < length text → left (refused ROOM (length text) 0) out ≡ put text out
+  pub text-short : length out < length text → leaving (refused ROOM (length text) 0) out ≡ put text out
   text-short h = sym (put-short text out h)
 
-  pub text-room : {end : List ℕ} {n : ℕ} → length text ≤ length out → Puts out end 0 n text → left (accepted (length text)) end ≡ put text out
-  text-room h (e, p) = ap (left (accepted (length text))) (e ∙ stored-front out text h) ∙ sym (put-room text out h)
+  pub text-room : {end : List ℕ} {n : ℕ} → length text ≤ length out → Puts out end 0 n text → leaving (accepted (length text)) end ≡ put text out
+  text-room h (e, p) = ap (leaving (accepted (length text))) (e ∙ stored-front out text h) ∙ sym (put-room text out h)

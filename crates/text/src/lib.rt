@@ -6,7 +6,7 @@ ghost use lib.ListN.{length};
 ghost use Rattle.rules.specs.Rows.{replyOf};
 ghost use Rattle.rules.specs.Text.{decimal, rowLine, rowLines, periodLine, refusedLine, replyText, textOf};
 ghost use Rattle.rules.specs.Answers.{put};
-ghost use Rattle.fields.specs.Verdicts.{refusalOf, answered, left};
+ghost use Rattle.fields.specs.Verdicts.{refusalOf, answered, leaving};
 ghost use Rattle.table.specs.Tables.{tableOf, Good};
 ghost use Rattle.rows.specs.Rows.{rowOf};
 ghost use Rattle.text.specs.Texts.{Puts, lineOf};
@@ -118,7 +118,7 @@ fn put_row_lines(out: &mut [u8], at: usize, t: Table, q: u32) -> usize
 
 // The text from the front of the buffer, or ROOM.
 fn put_text(out: &mut [u8], text: &[u8]) -> Answer
-    ensures { λ r. ⌜ left (answered r) (now (out .exit)) ≡ put (now (text .entry)) (now (out .entry)) ⌝ }
+    ensures { λ r. ⌜ leaving (answered r) (now (out .exit)) ≡ put (now (text .entry)) (now (out .entry)) ⌝ }
 {
     let n = text.len();
     if out.len() < n {
@@ -131,7 +131,7 @@ fn put_text(out: &mut [u8], text: &[u8]) -> Answer
 // The text of a table folded at the period q, from the front of the buffer, or ROOM.
 pub fn put_reply(out: &mut [u8], t: Table, q: u32) -> Answer
     requires { ⌜ Good t × (1 ≤ q) × (q ≤ t .len) ⌝ }
-    ensures { λ r. ⌜ left (answered r) (now (out .exit)) ≡ put (replyText (replyOf (tableOf t) q)) (now (out .entry)) ⌝ }
+    ensures { λ r. ⌜ leaving (answered r) (now (out .exit)) ≡ put (replyText (replyOf (tableOf t) q)) (now (out .entry)) ⌝ }
 {
     // 12 bytes for the period, and 24 for each of 32 rows.
     let mut text = [0u8; 780];
@@ -142,7 +142,7 @@ pub fn put_reply(out: &mut [u8], t: Table, q: u32) -> Answer
 
 // The line of a refusal, or ROOM.
 pub fn put_refusal(out: &mut [u8], r: Refusal) -> Answer
-    ensures { λ x. ⌜ left (answered x) (now (out .exit)) ≡ put (textOf (refusalOf r)) (now (out .entry)) ⌝ }
+    ensures { λ x. ⌜ leaving (answered x) (now (out .exit)) ≡ put (textOf (refusalOf r)) (now (out .entry)) ⌝ }
 {
     // 11 bytes, and 20 for each of three numbers.
     let mut text = [0u8; 71];

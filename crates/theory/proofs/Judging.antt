@@ -14,7 +14,7 @@ use Rattle.rules.specs.Sets.{Share}
 use Rattle.rules.specs.Table.{Op, Table, nops, op, noOp, SetOf, OpOk, Clash, Race, Contest, Accepted}
 use Rattle.rules.specs.Verdicts.{Verdict, accepted, refused, SHORT, ORDER, SIZE, RANGE, MANY, CLASH, RACE, Test, refuseIf, _then_, onwards, more, each}
 use Rattle.rules.specs.Bytes.{words, opAt}
-use Rattle.rules.specs.Judge.{needed, header, due, sized, complete, ranged, notMany, fieldTest, repeatTest, fieldsFrom, lenOk, countsOk, setOk, eachSetOk, opOk, clashes, races, pairsTest, judgeWhole, headOf, withOps, opsPlace, headTest, opsFrom, judge, Numbers, opOf, headOfNumbers, numbersTest, opsOfNumbers, judgeNumbers}
+use Rattle.rules.specs.Judge.{needed, header, due, sized, complete, ranged, notMany, fieldTest, repeatTest, fieldsFrom, lenOk, countsOk, setOk, eachSetOk, opOk, clashes, races, pairsTest, judgeWhole, headOf, withOps, opsPlace, headTest, opsFrom, judge, Numbers, opOfNumbers, headOfNumbers, numbersTest, opsOfNumbers, judgeNumbers}
 use Rattle.theory.specs.Pairs.{FirstPair}
 use Rattle.theory.proofs.Order.{Cmp, cmp}
 use Rattle.theory.proofs.Says.{Says, says-by, says-leb, says-ltb, says-and, says-or, clash-bool}
@@ -503,8 +503,8 @@ module _ (T : Table) where
       → opsOfNumbers T ns (suc left) at
       ≡ cond (eqb (length ns) 0) (accepted [])
       (refuseIf (ltb (length ns) 6) SHORT at 0
-      then ranged (opOk T (opOf ns)) at
-      then more (opOf ns) (opsOfNumbers T (drop 6 ns) left (at + 21)))
+      then ranged (opOk T (opOfNumbers ns)) at
+      then more (opOfNumbers ns) (opsOfNumbers T (drop 6 ns) left (at + 21)))
   unfolding opsOfNumbers
   numbers-next ns left at = refl
 

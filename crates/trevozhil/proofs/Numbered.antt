@@ -11,7 +11,7 @@ use lib.ListN.{length, drop}
 use Rattle.rules.specs.Table.{Op, Table, nops, op}
 use Rattle.rules.specs.Verdicts.{Verdict, accepted, refused, Test, refuseIf, _then_, onwards, more, each}
 use Rattle.rules.specs.Bytes.{num8, num16, opAt, tableBytes}
-use Rattle.rules.specs.Judge.{needed, header, due, notMany, sized, complete, ranged, fieldTest, repeatTest, fieldsFrom, pairsTest, judgeWhole, opsFrom, judge, Numbers, numbersTest, opOf, opsOfNumbers, judgeNumbers, opOk, clashes, races, lenOk, countsOk, setOk, eachSetOk, opsPlace, headOfNumbers, withOps}
+use Rattle.rules.specs.Judge.{needed, header, due, notMany, sized, complete, ranged, fieldTest, repeatTest, fieldsFrom, pairsTest, judgeWhole, opsFrom, judge, Numbers, numbersTest, opOfNumbers, opsOfNumbers, judgeNumbers, opOk, clashes, races, lenOk, countsOk, setOk, eachSetOk, opsPlace, headOfNumbers, withOps}
 use Rattle.rules.specs.Answers.{Written, put, written, bytesOf}
 use Rattle.theory.proofs.Answering.{put-room, put-short}
 use Rattle.theory.proofs.Judging.{field-row, repeat-row, fields-end, fields-next, head-row, judge-row}
@@ -126,7 +126,7 @@ ops-numbered T ns zero at = cond-numbered (eqb (length ns) 0) (good {x = []}) (t
 ops-numbered T ns (suc left) at =
     cond-numbered (eqb (length ns) 0) (good {x = []})
     (then-numbered (refuse-numbered (ltb (length ns) 6) 1 at 0 (omega arith))
-    (then-numbered (ranged-numbered (opOk T (opOf ns)) at) (more-numbered (opOf ns) (ops-numbered T (drop 6 ns) left (at + 21)))))
+    (then-numbered (ranged-numbered (opOk T (opOfNumbers ns)) at) (more-numbered (opOfNumbers ns) (ops-numbered T (drop 6 ns) left (at + 21)))))
 
 numbers-numbered : (N : Numbers) → Numbered (judgeNumbers N)
 unfolding judgeNumbers numbersTest

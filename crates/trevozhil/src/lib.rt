@@ -68,12 +68,12 @@ fn yes_said(yes: bool) -> Said
 }
 
 // The answer to "is q right".
-fn right_said(x: questions::Said) -> Said
-    ensures { λ w. ⌜ w ≡ saidOf (yesOf (questions.saidOf x)) ⌝ }
+fn right_said(x: questions::Truth) -> Said
+    ensures { λ w. ⌜ w ≡ saidOf (yesOf (questions.truthOf x)) ⌝ }
 {
     match x {
-        questions::Said::Right(yes) => yes_said(yes),
-        questions::Said::Denied(r) => refusal_said(r),
+        questions::Truth::Is(yes) => yes_said(yes),
+        questions::Truth::Denied(r) => refusal_said(r),
     }
 }
 

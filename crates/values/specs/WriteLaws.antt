@@ -15,7 +15,7 @@ use Rattle.rules.specs.Sets.{has}
 use Rattle.rules.specs.Table as rules
 use Rattle.rules.specs.Table.{op, endOf, Accepted}
 use Rattle.theory.specs.Tests.{without, modesOf, writers, lastIn, freshIn}
-use Rattle.table.specs.Tables.{opOf, tableOf, noOp, Good}
+use Rattle.table.specs.Tables.{opOf, tableOf, blankOp, Good}
 use Rattle.table.specs.TableLaws.{op-at, good-count}
 use Rattle.table.specs.declared.Table.{Table}
 use Rattle.turns.specs.TurnLaws.{modes-next}
@@ -26,7 +26,7 @@ use Rattle.values.specs.Bounds.{writesWithin}
 -- with one operation more
 pub modes-at : (t : Table) → Good t → (f : rules.Op → Bool) (k : ℕ) → k < t .count
     → modesOf f (take (k + 1) (tableOf t .ops))
-    ≡ bitOr (modesOf f (take k (tableOf t .ops))) (cond (f (opOf (getD (t .ops) k noOp))) (getD (t .ops) k noOp .modes) 0)
+    ≡ bitOr (modesOf f (take k (tableOf t .ops))) (cond (f (opOf (getD (t .ops) k blankOp))) (getD (t .ops) k blankOp .modes) 0)
 modes-at t good f k h = rw (add-one, modes-next f (tableOf t .ops) k (omega (arith, good-count t good)), op-at t k h)
 
 pub modes-all : (t : Table) → Good t → (f : rules.Op → Bool) (k : ℕ) → t .count ≤ k → modesOf f (take k (tableOf t .ops)) ≡ modesOf f (tableOf t .ops)

@@ -11,7 +11,7 @@ use lib.ListN.{length, take, getD}
 use lib.Seq.{take-all}
 use borrow.Author.Needs.{needs}
 use Rattle.theory.specs.Tests.{modesOf}
-use Rattle.table.specs.Tables.{opOf, tableOf, noOp}
+use Rattle.table.specs.Tables.{opOf, tableOf, blankOp}
 use Rattle.boards.specs.Boards.{laps}
 use Rattle.table.specs.TableLaws.{good-count, good-few, op-at}
 use Rattle.turns.specs.TurnLaws.{modes-next}
@@ -57,8 +57,8 @@ loop-again c =
     let j = i .loop .j in
     let l : j < t .count = omega arith in
     let h : j < length (tableOf t .ops) = omega (arith, good-count t (s .pre .0)) in
-    let f = laps (opOf (getD (t .ops) (s .args .i) noOp)) (s .args .shift) in
-    let next : modesOf f (take (j + 1) (tableOf t .ops)) ≡ bitOr (i .loop .modes) (cond (c .before .lap .result) (getD (t .ops) j noOp .modes) 0) = rw (add-one, modes-next f (tableOf t .ops) j h, op-at t j l, ← c .before .lap .ensures, ← i .loop .inv .2) in (
+    let f = laps (opOf (getD (t .ops) (s .args .i) blankOp)) (s .args .shift) in
+    let next : modesOf f (take (j + 1) (tableOf t .ops)) ≡ bitOr (i .loop .modes) (cond (c .before .lap .result) (getD (t .ops) j blankOp .modes) 0) = rw (add-one, modes-next f (tableOf t .ops) j h, op-at t j l, ← c .before .lap .ensures, ← i .loop .inv .2) in (
       omega arith,
       i .loop .inv .1,
       ⊎-elim

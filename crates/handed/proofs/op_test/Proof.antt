@@ -7,7 +7,7 @@ use lib.ListN.{drop, length-drop}
 use denote.Ref.{now}
 use borrow.Author.Needs.{needs}
 use borrow.Author.Tests.{not-true, not-false}
-use Rattle.rules.specs.Judge.{opOf, opOk}
+use Rattle.rules.specs.Judge.{opOfNumbers, opOk}
 use Rattle.theory.proofs.Bytes.{ranged-yes}
 use Rattle.fields.specs.FieldLaws.{ranged-no}
 use Rattle.handed.specs.Handed.{countsOf}
@@ -38,7 +38,7 @@ returns-3 c =
     let a = w .before .before .before .before .args in
     let ns = drop (a .at) (now (a .ops)) in
     let e = w .wide-at .ensures ∙ op-there (now (a .ops)) (a .at) in
-    let no : opOk (countsOf (a .t)) (opOf ns) ≡ false =
+    let no : opOk (countsOf (a .t)) (opOfNumbers ns) ≡ false =
     rw (← e) (sym (c .before .wide-ok .ensures) ∙ not-true _ (c .if3 .taken))
     in
     sym (op-whole _ ns _ (a .place) (omega arith) (omega (arith, length-drop (a .at) (now (a .ops)))) ∙ ranged-no _ (a .place) no)
@@ -49,7 +49,7 @@ returns-4 c =
     let a = w .before .before .before .before .args in
     let ns = drop (a .at) (now (a .ops)) in
     let e = w .wide-at .ensures ∙ op-there (now (a .ops)) (a .at) in
-    let ok : opOk (countsOf (a .t)) (opOf ns) ≡ true =
+    let ok : opOk (countsOf (a .t)) (opOfNumbers ns) ≡ true =
     rw (← e) (sym (c .before .wide-ok .ensures) ∙ not-false _ (c .if3 .left))
     in
     sym (op-whole _ ns _ (a .place) (omega arith) (omega (arith, length-drop (a .at) (now (a .ops)))) ∙ ranged-yes _ (a .place) ok)

@@ -8,7 +8,7 @@ use Rattle.fields.specs.RefusalLaws.{onwards-refusal}
 use Rattle.table.specs.JudgedLaws.{judged-accepted, judged-refused, took-good}
 use Rattle.rules.specs.Table.{Table}
 use Rattle.rules.specs.Answers.{Answers, RightSaid, periodAsked}
-use Rattle.questions.specs.Questions.{saidOf}
+use Rattle.questions.specs.Questions.{truthOf}
 use Rattle.questions.specs.QuestionLaws.{refused-answers, accepted-on}
 use borrow.Author.Needs.{needs}
 use Rattle.questions.proofs.is_right.Statement.{statement}
@@ -42,7 +42,7 @@ returns-2 c =
     let took = judged-accepted (judge _) (read .result) (read .ensures) (told .enum-told .given .1) in
     let ok = judge-accepted _ (took .table) (took .said) in
     let q = told .before .before .before .before .args .q in
-    subst (λ (u : Verdict Table). Answers (RightSaid q) u (saidOf (c .right-of .result)))
+    subst (λ (u : Verdict Table). Answers (RightSaid q) u (truthOf (c .right-of .result)))
     (accepted-on (λ (T : Table). periodAsked T q 0 then accepted T) took ok) (c .right-of .ensures)
 
 pub is-right-spec : {M : Type 1} → statement M

@@ -9,7 +9,7 @@ use Rattle.rules.specs.Bytes.{joined}
 use Rattle.rules.specs.Judge.{opsPlace}
 use Rattle.puts.specs.Puts.{stored}
 use Rattle.puts.specs.PutLaws.{stored-length, stored-turn}
-use Rattle.table.specs.Tables.{noOp}
+use Rattle.table.specs.Tables.{blankOp}
 use Rattle.writing.specs.Writing.{bytesOfOp}
 use Rattle.writing.proofs.put_ops.Statement.{statement}
 use Rattle.writing.proofs.put_ops.Tie as tie
@@ -64,7 +64,7 @@ loop-again c =
     let e = p .put-op .ensures in (
       omega arith,
       ap length e ∙ stored-length (i .loop .out) _ _ ∙ i .loop .inv .1,
-      stored-turn bytesOfOp 21 (λ o. refl) (a .t2 .ops) (now (a .out)) (opsPlace (a .t2 .modes)) noOp (i .loop .i) (omega arith) (i .loop .inv .2) refl e,
+      stored-turn bytesOfOp 21 (λ o. refl) (a .t2 .ops) (now (a .out)) (opsPlace (a .t2 .modes)) blankOp (i .loop .i) (omega arith) (i .loop .inv .2) refl e,
     )
 
 same-length : tie.Need-same-length Inv-loop μ-loop
