@@ -7,10 +7,10 @@ use mathlib.Core.Logic.{_↔_}
 use native.Mathlib.Omega.{arith}
 use Rattle.rules.specs.Table.{Table, Accepted}
 use Rattle.rules.specs.Runs.{BoardsRightAt, ValuesRightAt, spaced, IsPeriod}
+use Rattle.theory.specs.Walks.{IsReach}
 use Rattle.theory.specs.Tests.{boardsFine}
 use Rattle.theory.proofs.Order.{Cmp, cmp}
 use Rattle.theory.proofs.Says.{Says, clash-bool}
-use Rattle.theory.proofs.Modes.{IsReach}
 use Rattle.theory.proofs.Tests.{says-boards-right, says-values-right}
 use Rattle.theory.proofs.Period.{length-right}
 use Rattle.values.specs.Bounds.{IsBound}

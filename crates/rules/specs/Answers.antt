@@ -90,6 +90,10 @@ marginTest T i j n q =
 abbrev pub IsMargin : List ℕ → ℕ → ℕ → ℕ → ℕ → Verdict ℤ → Type 0
 IsMargin s i j n q v = v ≡ onwards (judge s) (λ T. marginTest T i j n q then accepted (margin T i j n q))
 
+-- the period of a table's bytes: "the smallest right q", or the refusal
+abbrev pub IsPeriodOf : List ℕ → Verdict ℕ → Type 0
+IsPeriodOf s v = Answers IsPeriod (judge s) v
+
 -- is q right: "q is place 0"
 abbrev pub RightSaid : ℕ → Table → Bool → Type 0
 RightSaid q T said = (said ≡ true) ↔ Right T q

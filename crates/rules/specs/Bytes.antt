@@ -47,13 +47,16 @@ opBytes o =
 
 -- "01, length 2: p. 02, length 3: boards, cells, modes, a byte each. 03, length 4 + 4·modes: first modes, then the followers of mode 0, 1,
 -- .. as 32-bit sets."
-unfoldable pub tableBytes : Table → List ℕ
-unfolding joined
-tableBytes T =
+abbrev pub headBytes : Table → List ℕ
+headBytes T =
     fieldBytes 1 (be16 (T .len))
     ++ fieldBytes 2 (T .boards ∷ T .cells ∷ T .modes ∷ [])
     ++ fieldBytes 3 (be32 (T .first) ++ joined be32 (T .follow))
-    ++ joined opBytes (T .ops)
+
+-- then the operations
+unfoldable pub tableBytes : Table → List ℕ
+unfolding joined
+tableBytes T = headBytes T ++ joined opBytes (T .ops)
 
 -- "The longest table has 818 bytes."
 abbrev pub longestTable : ℕ

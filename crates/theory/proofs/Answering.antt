@@ -17,7 +17,7 @@ use Rattle.rules.specs.Bytes.{replyBytes, farthest}
 use Rattle.rules.specs.Judge.{judge, Numbers}
 use Rattle.rules.specs.Text.{textOf}
 use Rattle.rules.specs.Answers.{Written, put, written, Answers, Planned, ReplyTo, bytesOf, IsPlan, IsFold, IsUnfold, IsWrite, asked, periodAsked, IsMargin, RightSaid, IsRight}
-use Rattle.theory.specs.Tests.{rightb, periodOf, planOf, askedTable, saidOf}
+use Rattle.theory.specs.Tests.{rightb, periodOf, planOf, askedTable, rightAnswer}
 use Rattle.theory.proofs.Says.{says-leb, says-and}
 use Rattle.theory.proofs.Verdicts.{never-refused, passed, then-first, then-rest, onwards-accepts, onwards-first}
 use Rattle.theory.proofs.Period.{period-unique}
@@ -118,13 +118,13 @@ question s q T e =
     (rw same at (judge-accepted s U x), low, rw same at high)
 
 -- the computed answer is the answer
-pub right-found : (s : List ℕ) (q : ℕ) → IsRight s q (saidOf s q)
-unfolding saidOf
+pub right-found : (s : List ℕ) (q : ℕ) → IsRight s q (rightAnswer s q)
+unfolding rightAnswer
 right-found s q =
     answers-exist (RightSaid q) (λ T. rightb T q) (askedTable s q) (λ T e. let (ok, low, high) = question s q T e in says-right T ok q low)
 
 pub right-exists : (s : List ℕ) (q : ℕ) → (v : Verdict Bool) × IsRight s q v
-right-exists s q = (saidOf s q, right-found s q)
+right-exists s q = (rightAnswer s q, right-found s q)
 
 -- ---- lent bytes
 

@@ -9,7 +9,7 @@ use Rattle.rules.specs.Verdicts.{Verdict, accepted, _then_, onwards}
 use Rattle.rules.specs.Judge.{judge}
 use Rattle.rules.specs.Answers.{ReplyTo, IsRight, marginTest}
 use Rattle.rules.specs.Bench.{Case, replies, margins, rights, Holds, All, bench}
-use Rattle.theory.specs.Tests.{planOf, saidOf}
+use Rattle.theory.specs.Tests.{planOf, rightAnswer}
 use Rattle.theory.proofs.Answering.{reply-found, right-found}
 
 -- an answer of each kind
@@ -20,10 +20,10 @@ data Said : Type 0 where
 
 -- what is computed for a case, and what stands beside it
 computed : Case → Said
-unfolding planOf onwards judge marginTest _then_ margin saidOf
+unfolding planOf onwards judge marginTest _then_ margin rightAnswer
 computed (replies s v) = replied (planOf s)
 computed (margins s i j n q v) = measured (onwards (judge s) (λ T. marginTest T i j n q then accepted (margin T i j n q)))
-computed (rights s q v) = decided (saidOf s q)
+computed (rights s q v) = decided (rightAnswer s q)
 
 expected : Case → Said
 expected (replies s v) = replied v
@@ -35,7 +35,7 @@ computed-holds : (c : Case) → computed c ≡ expected c → Holds c
 unfolding computed expected Holds
 computed-holds (replies s v) e = let same : planOf s ≡ v = cc in subst (λ (x : Verdict Reply). ReplyTo s x) same (reply-found s)
 computed-holds (margins s i j n q v) e = cc
-computed-holds (rights s q v) e = let same : saidOf s q ≡ v = cc in subst (λ (x : Verdict Bool). IsRight s q x) same (right-found s q)
+computed-holds (rights s q v) e = let same : rightAnswer s q ≡ v = cc in subst (λ (x : Verdict Bool). IsRight s q x) same (right-found s q)
 
 all-computed : (cs : List Case) → map computed cs ≡ map expected cs → All Holds cs
 unfolding All

@@ -13,7 +13,7 @@ use borrow.Author.Tests.{le-leb, lt-leb, le-ltb, eq-eqb, ne-eqb}
 use Rattle.rules.specs.Table.{Op, Table, nops}
 use Rattle.rules.specs.Rows.{Reply}
 use Rattle.rules.specs.Verdicts.{Verdict, accepted, refused, SIZE, MANY, _then_, more}
-use Rattle.rules.specs.Bytes.{num8, num16, num32, words, be16, be32, fieldBytes, joined, opBytes, opAt, tableBytes, rowBytes, replyBytes}
+use Rattle.rules.specs.Bytes.{num8, num16, num32, words, be16, be32, joined, opBytes, headBytes, opAt, tableBytes, rowBytes, replyBytes}
 use Rattle.rules.specs.Judge.{notMany, ranged, fieldTest, repeatTest, fieldsFrom, lenOk}
 use Rattle.theory.specs.Numbers.{OpFits}
 use Rattle.theory.proofs.Says.{says-leb, says-and}
@@ -85,13 +85,6 @@ words-length = joined-length be32 4 (λ x. refl)
 
 pub ops-length : (os : List Op) → length (joined opBytes os) ≡ 21 * length os
 ops-length = joined-length opBytes 21 (λ o. refl)
-
--- the bytes before the operations
-abbrev pub headBytes : Table → List ℕ
-headBytes T =
-    fieldBytes 1 (be16 (T .len))
-    ++ fieldBytes 2 (T .boards ∷ T .cells ∷ T .modes ∷ [])
-    ++ fieldBytes 3 (be32 (T .first) ++ joined be32 (T .follow))
 
 pub head-length : (T : Table) → length (headBytes T) ≡ 18 + 4 * length (T .follow)
 head-length T = omega (arith, words-length (T .follow))

@@ -11,12 +11,12 @@ use lib.Seq.{drop-cons, drop-length}
 use borrow.Author.Tests.{leb-true, eqb-true, not-false}
 use Rattle.rules.specs.Table.{Op, Table}
 use Rattle.rules.specs.Verdicts.{accepted, ORDER, SIZE}
-use Rattle.rules.specs.Bytes.{num8, num16, num32, words, be16, be32, joined, opAt, opBytes, tableBytes}
+use Rattle.rules.specs.Bytes.{num8, num16, num32, words, be16, be32, joined, opAt, opBytes, headBytes, tableBytes}
 use Rattle.rules.specs.Judge.{due, sized, fieldTest, repeatTest, fieldsFrom, opOk, headOf, withOps, opsPlace, headTest, opsFrom, judge}
 use Rattle.theory.proofs.Says.{clash-bool}
 use Rattle.theory.proofs.Verdicts.{passed, then-first, then-rest, onwards-first, more-first}
 use Rattle.theory.proofs.Judging.{field-row, repeat-row, field-passed, repeat-passed, both, fields-end, fields-next, head-row, head-ok, judge-row, whole-accepted}
-use Rattle.theory.proofs.Bytes.{words-length, headBytes}
+use Rattle.theory.proofs.Bytes.{words-length}
 
 module _ (s : List ℕ) (small : (i : ℕ) → i < length s → getD s i 0 < 256) where
   -- what stands past the end is 0

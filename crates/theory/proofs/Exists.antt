@@ -15,12 +15,12 @@ use lib.ListN.{getD, List·getD-eq-default}
 use Rattle.rules.specs.Sets.{has, In, Within}
 use Rattle.rules.specs.Table.{Table, followers, Accepted}
 use Rattle.rules.specs.Runs.{ValuesRightAt, Right, spaced, IsPeriod}
-use Rattle.theory.specs.Walks.{Reach, begin, turn}
+use Rattle.theory.specs.Walks.{Reach, begin, turn, IsReach}
 use Rattle.theory.specs.Tests.{step, close, reachSet, valuesFine, rightb, firstFrom, periodOf}
 use Rattle.theory.proofs.Order.{Cmp, cmp}
 use Rattle.theory.proofs.Says.{Says, Known, holds, fails, known, clash-bool}
 use Rattle.theory.proofs.Sets.{in-or}
-use Rattle.theory.proofs.Modes.{IsReach, in-step, grown}
+use Rattle.theory.proofs.Modes.{in-step, grown}
 use Rattle.theory.proofs.Tests.{says-values-right, says-right-at}
 use Rattle.theory.proofs.Values.{values-longer}
 use Rattle.theory.proofs.Period.{length-right}

@@ -10,7 +10,7 @@ use lib.Bits.{bitAnd, bitOr}
 use lib.ListN.{length, getD}
 use Rattle.rules.specs.Sets.{has, In, shares}
 use Rattle.rules.specs.Table.{Op, Table, noOp}
-use Rattle.theory.specs.Walks.{Reach, turn, Walk, last, more}
+use Rattle.theory.specs.Walks.{Reach, turn, IsReach, Walk, last, more}
 use Rattle.theory.specs.Tests.{without, step, via, modesOf}
 use Rattle.theory.proofs.Says.{Says, says-by}
 use Rattle.theory.proofs.Sets.{in-none, in-suc, in-and, in-or, in-without, says-shares}
@@ -83,15 +83,11 @@ module _ (T : Table) where
       go (inl x) = g m x
       go (inr x) = let (a, p, q) = in-step (T .follow) s m .0 x in turn (g a p) q
 
-  -- R is the set of the modes that a run can reach
-  unfoldable pub IsReach : ℕ → Type 0
-  IsReach R = (a : ℕ) → In a R ↔ Reach T a
-
   -- a walk of n turns from a reachable mode of s to a mode of t, by way of modes that are not in w
   abbrev pub Way : ℕ → ℕ → ℕ → ℕ → Type 0
   Way w n s t = (a : ℕ) × (b : ℕ) × Reach T a × In a s × Walk T (λ m. In m w → ⊥) n a b × In b t
 
-  pub says-way : (R : ℕ) → IsReach R → (w n s t : ℕ) → Says (shares (via (T .follow) w n (bitAnd R s)) t) (Way w (suc n) s t)
+  pub says-way : (R : ℕ) → IsReach T R → (w n s t : ℕ) → Says (shares (via (T .follow) w n (bitAnd R s)) t) (Way w (suc n) s t)
   unfolding IsReach
   says-way R hR w n s t =
       says-by (says-shares (via (T .follow) w n (bitAnd R s)) t)

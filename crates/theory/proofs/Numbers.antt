@@ -12,13 +12,13 @@ use lib.Pow.{pow-mono}
 use borrow.Author.Tests.{le-leb, lt-leb, le-ltb, eq-eqb, ne-eqb, eqb-true, not-false}
 use Rattle.rules.specs.Table.{Op, Table, noOp, nops, op, followers, Accepted}
 use Rattle.rules.specs.Verdicts.{accepted, SIZE, ORDER, refuseIf, _then_, onwards, more}
-use Rattle.rules.specs.Bytes.{num8, num16, num32, words, be32, joined, opBytes, tableBytes}
+use Rattle.rules.specs.Bytes.{num8, num16, num32, words, be32, joined, opBytes, headBytes, tableBytes}
 use Rattle.rules.specs.Judge.{needed, ranged, fieldTest, lenOk, countsOk, setOk, eachSetOk, opOk, judgeWhole, headOf, withOps, opsPlace, headTest, opsFrom, judge, headOfNumbers, numbersTest, opsOfNumbers, judgeNumbers}
 use Rattle.theory.specs.Numbers.{opNumbers, numbersOf, TableFits}
 use Rattle.theory.proofs.Says.{says-and}
 use Rattle.theory.proofs.Verdicts.{passes, passed, then-accepts, then-first, then-rest, then-same, onwards-accepts}
 use Rattle.theory.proofs.Judging.{says-set, says-op, says-each-set, says-counts, whole-accepts}
-use Rattle.theory.proofs.Bytes.{two-bytes, four-bytes, words-back, joined-length, words-length, headBytes, head-length, table-length, field-size, field-whole, ranged-yes, len-ok, fieldsOf, fields-accepted, fields-back, op-repeated}
+use Rattle.theory.proofs.Bytes.{two-bytes, four-bytes, words-back, joined-length, words-length, head-length, table-length, field-size, field-whole, ranged-yes, len-ok, fieldsOf, fields-accepted, fields-back, op-repeated}
 
 -- ---- the operations' numbers
 

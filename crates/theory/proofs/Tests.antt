@@ -10,11 +10,12 @@ use lib.Dec.{leb, ltb}
 use Rattle.rules.specs.Sets.{has, In, Share, Overlap, overlaps}
 use Rattle.rules.specs.Table.{Op, Table, nops, op, endOf, heldTo, Accepted}
 use Rattle.rules.specs.Runs.{BoardsRightAt, ValuesRightAt, Right, spaced}
+use Rattle.theory.specs.Walks.{IsReach}
 use Rattle.theory.specs.Near.{BoardsNear, LastWriter, Quiet, QuietTo, ValuesNear}
 use Rattle.theory.specs.Tests.{without, modesOf, boardBad, writers, lastIn, freshIn, valueBad, boardsFine, valuesFine}
 use Rattle.theory.proofs.Says.{Says, says-by, says-leb, says-ltb, says-and, says-not, says-all}
 use Rattle.theory.proofs.Sets.{in-none, in-without, in-small, says-shares}
-use Rattle.theory.proofs.Modes.{Way, IsReach, says-way, in-modes, walk-map}
+use Rattle.theory.proofs.Modes.{Way, says-way, in-modes, walk-map}
 use Rattle.theory.proofs.Boards.{boards-iff}
 use Rattle.theory.proofs.Values.{values-iff}
 

@@ -123,6 +123,6 @@ abbrev pub askedTable : List ℕ → ℕ → Verdict Table
 askedTable s q = onwards (judge s) (λ T. periodAsked T q 0 then accepted T)
 
 -- the answer whether q is right
-unfoldable pub saidOf : List ℕ → ℕ → Verdict Bool
+unfoldable pub rightAnswer : List ℕ → ℕ → Verdict Bool
 unfolding onwards judge asked _then_ rightb
-saidOf s q = onwards (askedTable s q) (λ T. accepted (rightb T q))
+rightAnswer s q = onwards (askedTable s q) (λ T. accepted (rightb T q))

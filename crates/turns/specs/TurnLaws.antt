@@ -13,10 +13,10 @@ use lib.Seq.{getD-at}
 use Rattle.rules.specs.Sets.{In, Within}
 use Rattle.rules.specs.Table as rules
 use Rattle.theory.specs.Tests.{without, step, via, modesOf}
-use Rattle.theory.specs.Walks.{Reach, begin, turn, Walk, Any}
+use Rattle.theory.specs.Walks.{Reach, begin, turn, IsReach, Walk, Any}
 use Rattle.theory.proofs.Order.{Cmp, cmp}
 use Rattle.theory.proofs.Sets.{in-none, in-zero, in-suc, in-small, in-or}
-use Rattle.theory.proofs.Modes.{IsReach, in-step, in-via, walk-map, grown}
+use Rattle.theory.proofs.Modes.{in-step, in-via, walk-map, grown}
 use Rattle.theory.proofs.Exists.{shut-reach}
 use Rattle.sets.specs.Laws.{same-members, or-assoc, step-pad}
 use Rattle.table.specs.Tables.{tableOf, padded, Good}

@@ -1,6 +1,6 @@
 // Turns: the modes that a run can reach, and the modes that may stand n cycles after a mode, for sixteen distances at a time.
 ghost use mathlib.Core.Path.{_≡_};
-ghost use Rattle.theory.proofs.Modes.{IsReach};
+ghost use Rattle.theory.specs.Walks.{IsReach};
 ghost use Rattle.table.specs.Tables.{tableOf, Good};
 ghost use Rattle.turns.specs.Turns.{singles, nextRow, blockFrom};
 use table::Table;

@@ -6,9 +6,9 @@ use mathlib.Core.List.{List, [], _∷_, _++_, map}
 use native.Mathlib.Omega.{arith}
 use lib.ListN.{length, take, length-map}
 use lib.Seq.{length-take-le}
-use Rattle.rules.specs.Bytes.{be32, joined, opBytes, tableBytes}
+use Rattle.rules.specs.Bytes.{be32, joined, opBytes, headBytes, tableBytes}
 use Rattle.rules.specs.Judge.{opsPlace}
-use Rattle.theory.proofs.Bytes.{headBytes, words-length, head-length, table-length}
+use Rattle.theory.proofs.Bytes.{words-length, head-length, table-length}
 use Rattle.table.specs.Tables.{opOf, tableOf}
 use Rattle.table.specs.declared.Table.{Table}
 use Rattle.writing.specs.Writing.{bytesOfOp, sizeOf}
