@@ -14,7 +14,7 @@ use lib.Pow.{pow-mono}
 use lib.ListN.{length, getD, take, replicate}
 use borrow.Author.Tests.{eqb-true}
 use Rattle.rules.specs.Sets.{has, In, Share, Within, Overlap}
-use Rattle.rules.specs.Table.{Op, Table, op, followers, Clash, Contest, Race, Accepted}
+use Rattle.rules.specs.Table.{Op, Table, noOp, op, followers, Clash, Contest, Race, Accepted}
 use Rattle.rules.specs.Runs.{mode, IsRun, Runs, plainStart, plainEnd, Source, BoardsRightAt, ValuesRightAt, Right, spaced, IsPeriod}
 use Rattle.rules.specs.Better.{OpBetter, Better}
 use Rattle.rules.specs.Rows.{ticks, replyOf, startsOf, margin}
@@ -346,7 +346,6 @@ inputs =
     ∷ k1-with 5 4 1
     ∷ k1-with 5 3 2
     ∷ (k1-with 5 3 2 ++ (0 ∷ []))
-    ∷ k1-with 5 3 33
     ∷ tableBytes k10
     ∷ tableBytes k10-touching
     ∷ []
@@ -373,7 +372,6 @@ verdicts =
     ∷ accepted (oneMode 5 1 0 (opn 1 4 1 0 0 1 ∷ []))
     ∷ refused 6 0 1
     ∷ refused 1 64 0
-    ∷ refused 5 694 0
     ∷ refused 6 0 1
     ∷ accepted k10-touching
     ∷ []
@@ -381,6 +379,11 @@ verdicts =
 judged : map judge inputs ≡ verdicts
 unfolding judge inputs verdicts
 judged = refl
+
+-- "K1's operation .. 33 times: refused 5 694 0"
+many-judged : judge (k1-with 5 3 33) ≡ refused 5 694 0
+unfolding judge k1-with
+many-judged = refl
 
 -- "header complete, tag due, not a 33rd, length": where one operation more may come, and what stands behind K1's would be a second
 seconds : List (Verdict (List Op))
@@ -465,27 +468,12 @@ sets-of-steps : each-set (λ s. setted 1 1 1 (opn 0 1 s 0 0 1))
 unfolding each-set setted
 sets-of-steps = refl
 
--- ---- "The longest table has 818 bytes": 32 modes, each follows each, and 32 operations, each in a tick of its own
-ticks-each : ℕ → List Op
-ticks-each zero = []
-ticks-each (suc n) = opn n 1 65535 4294967295 4294967295 4294967295 ∷ ticks-each n
-
-largest : Table
-unfolding ticks-each
-largest =
-    record {
-      len = 1000;
-      boards = 16;
-      cells = 32;
-      modes = 32;
-      first = 4294967295;
-      follow = replicate 32 4294967295;
-      ops = ticks-each 32;
-    }
-
-largest-length : length (tableBytes largest) ≡ longestTable
-unfolding tableBytes largest
-largest-length = refl
+-- ---- "The longest table has 818 bytes": 32 modes and 32 operations. That such a table is accepted, and none that is longer, is proved in
+-- theory/proofs/Lengths.
+longest-length : length (tableBytes (record { len = 0; boards = 0; cells = 0; modes = 0; first = 0; follow = replicate 32 0; ops = replicate 32 noOp }))
+    ≡ longestTable
+unfolding tableBytes
+longest-length = refl
 
 -- ---- a table handed over as numbers: K1's, with another length, counts, first modes, follower words, operations' numbers
 handed : ℕ → ℕ → ℕ → ℕ → ℕ → List ℕ → List ℕ → Test

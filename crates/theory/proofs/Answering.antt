@@ -1,7 +1,7 @@
 -- Every public answer is there for every input, and there is only one.
 -- Assumes nothing.
-use Prim.Native.Nat.{ℕ, _<_, _≤_}
-use mathlib.Core.Path.{_≡_, refl, sym, ap, _∙_}
+use Prim.Native.Nat.{ℕ, _+_, _*_, _<_, _≤_}
+use mathlib.Core.Path.{_≡_, refl, sym, ap, subst⁻¹, _∙_}
 use mathlib.Core.Bool.{Bool, true, false, not, _&&_}
 use mathlib.Core.List.{List, _++_}
 use native.Mathlib.Omega.{arith}
@@ -10,13 +10,14 @@ use lib.Dec.{leb}
 use lib.IntN.{ℤ}
 use lib.ListN.{length, take, drop, length-append, length-drop}
 use borrow.Author.Tests.{lt-ltb, le-ltb, not-false}
-use Rattle.rules.specs.Table.{Table, Accepted}
+use Rattle.rules.specs.Table.{Table, nops, Accepted}
+use Rattle.rules.specs.Runs.{IsPeriod}
 use Rattle.rules.specs.Rows.{Reply, replyOf}
 use Rattle.rules.specs.Verdicts.{Verdict, accepted, refused, ASK, ROOM, _then_, onwards}
 use Rattle.rules.specs.Bytes.{replyBytes, farthest}
 use Rattle.rules.specs.Judge.{judge, Numbers}
-use Rattle.rules.specs.Text.{textOf}
-use Rattle.rules.specs.Answers.{Written, put, written, Answers, Planned, ReplyTo, bytesOf, IsPlan, IsFold, IsUnfold, IsWrite, asked, periodAsked, IsMargin, RightSaid, IsRight}
+use Rattle.rules.specs.Text.{replyText, textOf}
+use Rattle.rules.specs.Answers.{Written, put, written, Answers, Planned, ReplyTo, bytesOf, IsPlan, IsFold, IsUnfold, IsWrite, asked, periodAsked, IsMargin, IsPeriodOf, RightSaid, IsRight}
 use Rattle.theory.specs.Tests.{rightb, periodOf, planOf, askedTable, rightAnswer}
 use Rattle.theory.proofs.Says.{says-leb, says-and}
 use Rattle.theory.proofs.Verdicts.{never-refused, passed, then-first, then-rest, onwards-accepts, onwards-first}
@@ -24,6 +25,7 @@ use Rattle.theory.proofs.Period.{period-unique}
 use Rattle.theory.proofs.Exists.{says-right, period-found}
 use Rattle.theory.proofs.Judging.{judge-accepted}
 use Rattle.theory.proofs.Lengths.{no-farther}
+use Rattle.theory.proofs.Bytes.{reply-size}
 
 -- ---- answers that are facts about what was accepted
 
@@ -40,6 +42,59 @@ answers-exist : {A B : Type 0} (P : A → B → Type 0) (f : A → B) (u : Verdi
 unfolding Answers onwards
 answers-exist P f (accepted x) g = (f x, g x refl, refl)
 answers-exist P f (refused n a b) g = refl
+
+-- ---- lent bytes
+
+-- with room: the number of bytes, then the bytes and the rest of the buffer
+pub put-room : (bytes out : List ℕ) → length bytes ≤ length out
+    → put bytes out ≡ record { answer = accepted (length bytes); buffer = bytes ++ drop (length bytes) out }
+unfolding put
+put-room bytes out h = rw (le-ltb (length out) (length bytes) h)
+
+-- without: ROOM
+pub put-short : (bytes out : List ℕ) → length out < length bytes
+    → put bytes out ≡ record { answer = refused ROOM (length bytes) 0; buffer = out }
+unfolding put
+put-short bytes out h = rw (lt-ltb (length out) (length bytes) h)
+
+put-refused : (bytes out : List ℕ) (n a b : ℕ) → put bytes out .answer ≡ refused n a b → put bytes out .buffer ≡ out
+put-refused bytes out n a b e = go (decLt (length out) (length bytes))
+  where
+    go : Dec (length out < length bytes) → put bytes out .buffer ≡ out
+    go (yes h) = ap (λ (w : Written). w .buffer) (put-short bytes out h)
+    go (no h) = never-refused (sym e ∙ ap (λ (w : Written). w .answer) (put-room bytes out (omega arith)))
+
+-- as many bytes as are told stand in the buffer
+pub put-count : (bytes out : List ℕ) (w : Written) (n : ℕ) → w ≡ put bytes out → w .answer ≡ accepted n → n ≤ length (w .buffer)
+put-count bytes out w n e told = go (decLt (length out) (length bytes))
+  where
+    go : Dec (length out < length bytes) → n ≤ length (w .buffer)
+    go (yes h) = never-refused (sym (ap (λ (x : Written). x .answer) (e ∙ put-short bytes out h)) ∙ told)
+    go (no h) =
+        let room = e ∙ put-room bytes out (omega arith) in
+        let count : n ≡ length bytes = cc (told, ap (λ (x : Written). x .answer) room) in
+        rw room (omega (arith, length-append bytes (drop (length bytes) out)))
+
+-- demand 1: "A refusal gives its number and two figures .., and the reply buffer keeps each byte it had", whatever was to be written
+pub refusal-keeps : (v : Verdict (List ℕ)) (out : List ℕ) (n a b : ℕ) → written v out .answer ≡ refused n a b → written v out .buffer ≡ out
+unfolding written
+refusal-keeps (accepted bytes) out n a b e = put-refused bytes out n a b e
+refusal-keeps (refused m c d) out n a b e = refl
+
+-- whatever was to be written, no byte is added to the buffer and none taken away
+put-length : (bytes out : List ℕ) → length (put bytes out .buffer) ≡ length out
+put-length bytes out = go (decLt (length out) (length bytes))
+  where
+    go : Dec (length out < length bytes) → length (put bytes out .buffer) ≡ length out
+    go (yes h) = ap (λ (w : Written). length (w .buffer)) (put-short bytes out h)
+    go (no h) =
+        ap (λ (w : Written). length (w .buffer)) (put-room bytes out (omega arith))
+        ∙ omega (arith, length-append bytes (drop (length bytes) out), length-drop (length bytes) out)
+
+pub written-length : (v : Verdict (List ℕ)) (out : List ℕ) → length (written v out .buffer) ≡ length out
+unfolding written
+written-length (accepted bytes) out = put-length bytes out
+written-length (refused n a b) out = refl
 
 -- ---- plan
 
@@ -69,12 +124,48 @@ plan-put s out w T read (v, r, e) =
     let same = reply-unique s v (planOf s) r (reply-found s) ∙ onwards-accepts (λ U. accepted (replyOf U (periodOf U))) read in
     e ∙ ap (λ (u : Verdict Reply). written (bytesOf replyBytes u) out) same
 
+-- "demand 2 gives every accepted table a reply": into a buffer with room, the bytes of the table folded at its period
+pub plan-replies : (s out : List ℕ) (T : Table) (w : Written) → judge s ≡ accepted T → 5 + 7 * nops T ≤ length out → IsPlan s out w
+    → (q : ℕ) × IsPeriod T q × (w .answer ≡ accepted (5 + 7 * nops T)) × (w .buffer ≡ replyBytes (replyOf T q) ++ drop (5 + 7 * nops T) out)
+plan-replies s out T w read room plan =
+    let q = periodOf T in
+    let size = reply-size T q in
+    let wrote = plan-put s out w T read plan ∙ put-room (replyBytes (replyOf T q)) out (omega arith) in
+    (q, period-found T (judge-accepted s T read), rw (wrote, size), rw (wrote, size))
+
+-- ROOM into a shorter one
+pub plan-room : (s out : List ℕ) (T : Table) (w : Written) → judge s ≡ accepted T → length out < 5 + 7 * nops T → IsPlan s out w
+    → (w .answer ≡ refused ROOM (5 + 7 * nops T) 0) × (w .buffer ≡ out)
+plan-room s out T w read short plan =
+    let size = reply-size T (periodOf T) in
+    let wrote = plan-put s out w T read plan ∙ put-short (replyBytes (replyOf T (periodOf T))) out (omega arith) in
+    (rw (wrote, size), rw wrote)
+
 -- ---- fold: the text of the one reply
 pub fold-unique : (s out : List ℕ) (w x : Written) → IsFold s out w → IsFold s out x → w ≡ x
 fold-unique s out w x (v, r, e) (u, q, f) = e ∙ ap (λ (y : Verdict Reply). put (textOf y) out) (reply-unique s v u r q) ∙ sym f
 
 pub fold-exists : (s out : List ℕ) → (w : Written) × IsFold s out w
 fold-exists s out = (put (textOf (planOf s)) out, (planOf s, reply-found s, refl))
+
+-- an accepted table's text is that of its reply, put where there is room
+pub fold-replies : (s out : List ℕ) (T : Table) (q : ℕ) (w : Written) → judge s ≡ accepted T → IsPeriod T q
+    → length (replyText (replyOf T q)) ≤ length out → IsFold s out w
+    → (w .answer ≡ accepted (length (replyText (replyOf T q))))
+    × (w .buffer ≡ replyText (replyOf T q) ++ drop (length (replyText (replyOf T q))) out)
+unfolding textOf Answers
+fold-replies s out T q w read period room (v, r, e) =
+    let text = replyText (replyOf T q) in
+    let same = reply-unique s v (accepted (replyOf T q)) r (subst⁻¹ (λ (u : Verdict Table). Answers Planned u (accepted (replyOf T q))) read (replyOf T q, (q, period, refl), refl)) in
+    let wrote = e ∙ ap (λ (u : Verdict Reply). put (textOf u) out) same ∙ put-room text out room in
+    (rw wrote, rw wrote)
+
+-- ---- the period of a table's bytes
+pub period-of-unique : (s : List ℕ) (v w : Verdict ℕ) → IsPeriodOf s v → IsPeriodOf s w → v ≡ w
+period-of-unique s = answers-unique IsPeriod period-unique (judge s)
+
+pub period-of-exists : (s : List ℕ) → (v : Verdict ℕ) × IsPeriodOf s v
+period-of-exists s = (_, answers-exist IsPeriod periodOf (judge s) (λ T e. period-found T (judge-accepted s T e)))
 
 -- ---- unfold, write, margin: computed from the input, so one answer and always one
 pub unfold-unique : (s out : List ℕ) (w x : Written) → IsUnfold s out w → IsUnfold s out x → w ≡ x
@@ -126,56 +217,6 @@ right-found s q =
 pub right-exists : (s : List ℕ) (q : ℕ) → (v : Verdict Bool) × IsRight s q v
 right-exists s q = (rightAnswer s q, right-found s q)
 
--- ---- lent bytes
-
--- with room: the number of bytes, then the bytes and the rest of the buffer
-pub put-room : (bytes out : List ℕ) → length bytes ≤ length out
-    → put bytes out ≡ record { answer = accepted (length bytes); buffer = bytes ++ drop (length bytes) out }
-unfolding put
-put-room bytes out h = rw (le-ltb (length out) (length bytes) h)
-
--- without: ROOM
-pub put-short : (bytes out : List ℕ) → length out < length bytes
-    → put bytes out ≡ record { answer = refused ROOM (length bytes) 0; buffer = out }
-unfolding put
-put-short bytes out h = rw (lt-ltb (length out) (length bytes) h)
-
-put-refused : (bytes out : List ℕ) (n a b : ℕ) → put bytes out .answer ≡ refused n a b → put bytes out .buffer ≡ out
-put-refused bytes out n a b e = go (decLt (length out) (length bytes))
-  where
-    go : Dec (length out < length bytes) → put bytes out .buffer ≡ out
-    go (yes h) = ap (λ (w : Written). w .buffer) (put-short bytes out h)
-    go (no h) = never-refused (sym e ∙ ap (λ (w : Written). w .answer) (put-room bytes out (omega arith)))
-
--- as many bytes as are told stand in the buffer
-pub put-count : (bytes out : List ℕ) (w : Written) (n : ℕ) → w ≡ put bytes out → w .answer ≡ accepted n → n ≤ length (w .buffer)
-put-count bytes out w n e told = go (decLt (length out) (length bytes))
-  where
-    go : Dec (length out < length bytes) → n ≤ length (w .buffer)
-    go (yes h) = never-refused (sym (ap (λ (x : Written). x .answer) (e ∙ put-short bytes out h)) ∙ told)
-    go (no h) =
-        let room = e ∙ put-room bytes out (omega arith) in
-        let count : n ≡ length bytes = cc (told, ap (λ (x : Written). x .answer) room) in
-        rw room (omega (arith, length-append bytes (drop (length bytes) out)))
-
--- demand 1: "A refusal gives its number and two figures .., and the reply buffer keeps each byte it had", whatever was to be written
-pub refusal-keeps : (v : Verdict (List ℕ)) (out : List ℕ) (n a b : ℕ) → written v out .answer ≡ refused n a b → written v out .buffer ≡ out
-unfolding written
-refusal-keeps (accepted bytes) out n a b e = put-refused bytes out n a b e
-refusal-keeps (refused m c d) out n a b e = refl
-
--- whatever was to be written, no byte is added to the buffer and none taken away
-pub written-length : (v : Verdict (List ℕ)) (out : List ℕ) → length (written v out .buffer) ≡ length out
-unfolding written
-written-length (accepted bytes) out = go (decLt (length out) (length bytes))
-  where
-    go : Dec (length out < length bytes) → length (put bytes out .buffer) ≡ length out
-    go (yes h) = ap (λ (w : Written). length (w .buffer)) (put-short bytes out h)
-    go (no h) =
-        ap (λ (w : Written). length (w .buffer)) (put-room bytes out (omega arith))
-        ∙ omega (arith, length-append bytes (drop (length bytes) out), length-drop (length bytes) out)
-written-length (refused n a b) out = refl
-
 -- ---- both, of each function that writes
 pub plan-keeps : (s out : List ℕ) (w : Written) (n a b : ℕ) → IsPlan s out w → w .answer ≡ refused n a b → w .buffer ≡ out
 plan-keeps s out w n a b (v, r, e) no-plan = rw e (refusal-keeps _ out n a b (rw e at no-plan))
@@ -192,6 +233,9 @@ fold-keeps s out w n a b (v, r, e) no-text = rw e (put-refused (textOf v) out n 
 pub plan-length : (s out : List ℕ) (w : Written) → IsPlan s out w → length (w .buffer) ≡ length out
 plan-length s out w (v, r, e) = rw e (written-length _ out)
 
+pub fold-length : (s out : List ℕ) (w : Written) → IsFold s out w → length (w .buffer) ≡ length out
+fold-length s out w (v, r, e) = rw e (put-length (textOf v) out)
+
 pub unfold-length : (s out : List ℕ) (w : Written) → IsUnfold s out w → length (w .buffer) ≡ length out
 unfold-length s out w e = rw e (written-length _ out)
 
@@ -205,6 +249,9 @@ module _ (s t : List ℕ) (near : take farthest s ≡ take farthest t) where
 
   pub fold-near : (out : List ℕ) (w : Written) → IsFold s out w → IsFold t out w
   fold-near out w (v, r, e) = (v, rw (no-farther s t near) at r, e)
+
+  pub period-of-near : (v : Verdict ℕ) → IsPeriodOf s v → IsPeriodOf t v
+  period-of-near v x = rw (no-farther s t near) at x
 
   pub margin-near : (i j n q : ℕ) (v : Verdict ℤ) → IsMargin s i j n q v → IsMargin t i j n q v
   margin-near i j n q v e = rw (no-farther s t near) at e

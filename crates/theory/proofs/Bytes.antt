@@ -7,13 +7,13 @@ use mathlib.Core.List.{List, [], _∷_, _++_, append-assoc}
 use native.Mathlib.Nat.{div-div-eq-div-mul}
 use native.Mathlib.Omega.{arith}
 use lib.Dec.{eqb·suc-zero}
-use lib.ListN.{length, getD, length-append}
+use lib.ListN.{length, getD, length-append, length-map}
 use lib.Seq.{getD-append-add}
 use borrow.Author.Tests.{le-leb, lt-leb, le-ltb, eq-eqb, ne-eqb}
 use Rattle.rules.specs.Table.{Op, Table, nops}
-use Rattle.rules.specs.Rows.{Reply}
+use Rattle.rules.specs.Rows.{Reply, replyOf}
 use Rattle.rules.specs.Verdicts.{Verdict, accepted, refused, SIZE, MANY, _then_, more}
-use Rattle.rules.specs.Bytes.{num8, num16, num32, words, be16, be32, joined, opBytes, headBytes, opAt, tableBytes, rowBytes, replyBytes}
+use Rattle.rules.specs.Bytes.{num8, num16, num32, words, be32, joined, opBytes, headBytes, opAt, tableBytes, rowBytes, replyBytes}
 use Rattle.rules.specs.Judge.{notMany, ranged, fieldTest, repeatTest, fieldsFrom, lenOk}
 use Rattle.theory.specs.Numbers.{OpFits}
 use Rattle.theory.proofs.Says.{says-leb, says-and}
@@ -37,7 +37,7 @@ four-bytes x h =
     omega (arith, two-low x)
 
 -- what stands behind some bytes is read past their length
-past8 : (pre s : List ℕ) (n k : ℕ) → n ≡ length pre + k → num8 (pre ++ s) n ≡ num8 s k
+pub past8 : (pre s : List ℕ) (n k : ℕ) → n ≡ length pre + k → num8 (pre ++ s) n ≡ num8 s k
 past8 pre s n k e = rw e (getD-append-add pre s k 0)
 
 pub past16 : (pre s : List ℕ) (n k : ℕ) → n ≡ length pre + k → num16 (pre ++ s) n ≡ num16 s k
@@ -96,6 +96,11 @@ table-length T = omega (arith, length-append (headBytes T) (joined opBytes (T .o
 pub reply-length : (R : Reply) → length (replyBytes R) ≡ 5 + 7 * length (R .rows)
 unfolding replyBytes
 reply-length R = omega (arith, joined-length rowBytes 7 (λ r. refl) (R .rows))
+
+-- "A reply has 5 + 7·operations bytes."
+pub reply-size : (T : Table) (q : ℕ) → length (replyBytes (replyOf T q)) ≡ 5 + 7 * nops T
+unfolding replyOf
+reply-size T q = reply-length (replyOf T q) ∙ rw (length-map (T .ops) _)
 
 -- ---- a field that is there
 
@@ -177,11 +182,11 @@ module _ {A : Type 0} (tag size : ℕ) (ok : A → Bool) (value : List ℕ → �
 
   -- one whole field, where no more may come and where one may
   module _ (t : num8 s at ≡ tag) (h : at + 3 + size ≤ length s) (z : num16 s (at + 1) ≡ size) where
-    field-many : fieldsFrom tag size ok value s 0 at ≡ refused MANY at 0
+    pub field-many : fieldsFrom tag size ok value s 0 at ≡ refused MANY at 0
     unfolding fieldsFrom
     field-many = simp (lt-leb (length s) at (omega arith), repeat-whole s at tag size (ok (value s at)) t h z 0)
 
-    field-more : (left : ℕ)
+    pub field-more : (left : ℕ)
         → fieldsFrom tag size ok value s (suc left) at
         ≡ (ranged (ok (value s at)) at then more (value s at) (fieldsFrom tag size ok value s left (at + 3 + size)))
     unfolding fieldsFrom
@@ -196,33 +201,33 @@ pub record Repeated {A : Type 0} (tag size : ℕ) (value : List ℕ → ℕ → 
   pub back : (x : A) → Fits x → (pre post : List ℕ) (n : ℕ) → n ≡ length pre → value (pre ++ (bytes x ++ post)) n ≡ x
 
 module _ {A : Type 0} {tag size : ℕ} {value : List ℕ → ℕ → A} {bytes : A → List ℕ} {Fits : A → Type 0}
-    (is : Repeated tag size value bytes Fits) (d : A) (ok : A → Bool) where
-  -- the first of the fields behind some bytes
-  module _ (x : A) (xs : List A) (pre : List ℕ) (n : ℕ) (place : n ≡ length pre) where
-    abbrev rest : List ℕ
-    rest = joined bytes xs
+    (is : Repeated tag size value bytes Fits) where
+  -- such a field behind some bytes
+  module _ (x : A) (pre post : List ℕ) (n : ℕ) (place : n ≡ length pre) where
+    pub first-tag : num8 (pre ++ (bytes x ++ post)) n ≡ tag
+    first-tag = past8 pre (bytes x ++ post) n 0 (omega arith) ∙ is .tagged x post
 
-    first-tag : num8 (pre ++ (bytes x ++ rest)) n ≡ tag
-    first-tag = past8 pre (bytes x ++ rest) n 0 (omega arith) ∙ is .tagged x rest
+    pub first-whole : n + 3 + size ≤ length (pre ++ (bytes x ++ post))
+    first-whole = omega (arith, length-append pre (bytes x ++ post), length-append (bytes x) post, is .width x)
 
-    first-whole : n + 3 + size ≤ length (pre ++ (bytes x ++ rest))
-    first-whole = omega (arith, length-append pre (bytes x ++ rest), length-append (bytes x) rest, is .width x)
-
-    first-size : num16 (pre ++ (bytes x ++ rest)) (n + 1) ≡ size
-    first-size = past16 pre (bytes x ++ rest) (n + 1) 1 (omega arith) ∙ is .sized x rest
+    pub first-size : num16 (pre ++ (bytes x ++ post)) (n + 1) ≡ size
+    first-size = past16 pre (bytes x ++ post) (n + 1) 1 (omega arith) ∙ is .sized x post
 
   -- fields that are written one after the other are judged by what is written in them
-  pub fields-back : (xs : List A) (pre : List ℕ) (left n : ℕ) → n ≡ length pre → ((i : ℕ) → i < length xs → Fits (getD xs i d))
+  pub fields-back : (d : A) (ok : A → Bool) (xs : List A) (pre : List ℕ) (left n : ℕ) → n ≡ length pre
+      → ((i : ℕ) → i < length xs → Fits (getD xs i d))
       → fieldsFrom tag size ok value (pre ++ joined bytes xs) left n ≡ fieldsOf size ok xs left n
   unfolding joined fieldsOf
-  fields-back [] pre left n place h = no-field tag size ok value (pre ++ []) n left (omega (arith, length-append pre []))
-  fields-back (x ∷ xs) pre zero n place h =
-      field-many tag size ok value _ n (first-tag x xs pre n place) (first-whole x xs pre n place) (first-size x xs pre n place)
-  fields-back (x ∷ xs) pre (suc left) n place h =
-      let first = is .back x (h 0 (omega arith)) pre (joined bytes xs) n place in
+  fields-back d ok [] pre left n place h = no-field tag size ok value (pre ++ []) n left (omega (arith, length-append pre []))
+  fields-back d ok (x ∷ xs) pre zero n place h =
+      let rest = joined bytes xs in
+      field-many tag size ok value _ n (first-tag x pre rest n place) (first-whole x pre rest n place) (first-size x pre rest n place)
+  fields-back d ok (x ∷ xs) pre (suc left) n place h =
+      let rest = joined bytes xs in
+      let first = is .back x (h 0 (omega arith)) pre rest n place in
       let place′ : n + 3 + size ≡ length (pre ++ bytes x) = omega (arith, length-append pre (bytes x), is .width x) in
-      let more = fields-back xs (pre ++ bytes x) left (n + 3 + size) place′ (λ i b. h (suc i) (omega arith)) in
-      field-more tag size ok value _ n (first-tag x xs pre n place) (first-whole x xs pre n place) (first-size x xs pre n place) left
+      let more = fields-back d ok xs (pre ++ bytes x) left (n + 3 + size) place′ (λ i b. h (suc i) (omega arith)) in
+      field-more tag size ok value _ n (first-tag x pre rest n place) (first-whole x pre rest n place) (first-size x pre rest n place) left
       ∙ rw (first, ← append-assoc, more)
 
 pub op-repeated : Repeated 4 18 opAt opBytes OpFits

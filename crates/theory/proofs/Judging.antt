@@ -495,11 +495,11 @@ judge-accepted s T e =
 
 module _ (T : Table) where
   -- the tests at one operation's numbers, where no more may come and where one may
-  numbers-end : (ns : List ℕ) (at : ℕ) → opsOfNumbers T ns zero at ≡ cond (eqb (length ns) 0) (accepted []) (notMany at 0 then accepted [])
+  pub numbers-end : (ns : List ℕ) (at : ℕ) → opsOfNumbers T ns zero at ≡ cond (eqb (length ns) 0) (accepted []) (notMany at 0 then accepted [])
   unfolding opsOfNumbers
   numbers-end ns at = refl
 
-  numbers-next : (ns : List ℕ) (left at : ℕ)
+  pub numbers-next : (ns : List ℕ) (left at : ℕ)
       → opsOfNumbers T ns (suc left) at
       ≡ cond (eqb (length ns) 0) (accepted [])
       (refuseIf (ltb (length ns) 6) SHORT at 0
@@ -535,14 +535,14 @@ module _ (N : Numbers) where
   unfolding numbersTest
   numbers-row = refl
 
-  judgeNumbers-row : judgeNumbers N
+  pub judgeNumbers-row : judgeNumbers N
       ≡ (numbersTest N
       then onwards (opsOfNumbers (headOfNumbers N) (N .ops) 32 (opsPlace (N .modes))) (λ os. judgeWhole (withOps (headOfNumbers N) os)))
   unfolding judgeNumbers
   judgeNumbers-row = refl
 
   -- a head that passes is in its ranges, and operations come with it
-  numbers-ok : numbersTest N ≡ accepted tt → HeadOk (headOfNumbers N) × (0 < length (N .ops))
+  pub numbers-ok : numbersTest N ≡ accepted tt → HeadOk (headOfNumbers N) × (0 < length (N .ops))
   numbers-ok e =
       let e0 = sym numbers-row ∙ e in
       let e1 = then-rest _ _ e0 in

@@ -1,26 +1,437 @@
 -- A table handed over as numbers is judged as if first written in the layout and then read; an accepted table is read back as it was written.
 -- Assumes nothing.
-use Prim.Native.Nat.{ℕ, zero, suc, _+_, _*_, _^_, _<_, _≤_}
-use mathlib.Core.Path.{_≡_, refl, sym, ap, _∙_}
-use mathlib.Core.Bool.{Bool, not, _&&_}
-use mathlib.Core.List.{List, [], _∷_, _++_}
+use Prim.Native.Nat.{ℕ, zero, suc, _+_, _-_, _*_, _^_, _<_, _≤_}
+use mathlib.Core.Path.{_≡_, refl, sym, ap, subst, _∙_}
+use mathlib.Core.Bool.{Bool, true, false, not, _&&_}
+use mathlib.Core.List.{List, [], _∷_, _++_, append-assoc}
 use native.Mathlib.Decide.{ℕ-discrete}
 use native.Mathlib.Omega.{arith}
 use lib.Dec.{leb, eqb, eqb·suc-zero}
-use lib.ListN.{length, take}
+use lib.ListN.{length, getD, take, drop, length-append, length-drop}
 use lib.Pow.{pow-mono}
-use borrow.Author.Tests.{le-leb, lt-leb, le-ltb, eq-eqb, ne-eqb, eqb-true, not-false}
-use Rattle.rules.specs.Table.{Op, Table, noOp, nops, op, followers, Accepted}
-use Rattle.rules.specs.Verdicts.{accepted, SIZE, ORDER, refuseIf, _then_, onwards, more}
-use Rattle.rules.specs.Bytes.{num8, num16, num32, words, be32, joined, opBytes, headBytes, tableBytes}
-use Rattle.rules.specs.Judge.{needed, ranged, fieldTest, lenOk, countsOk, setOk, eachSetOk, opOk, judgeWhole, headOf, withOps, opsPlace, headTest, opsFrom, judge, headOfNumbers, numbersTest, opsOfNumbers, judgeNumbers}
-use Rattle.theory.specs.Numbers.{opNumbers, numbersOf, TableFits}
+use lib.Seq.{drop-drop}
+use borrow.Author.Tests.{le-leb, lt-leb, le-ltb, lt-ltb, eq-eqb, ne-eqb}
+use Rattle.rules.specs.Table.{Op, Table, noOp, nops, op, Accepted}
+use Rattle.rules.specs.Verdicts.{Verdict, accepted, refused, SHORT, SIZE, ORDER, MANY, RANGE, refuseIf, _then_, onwards, more}
+use Rattle.rules.specs.Bytes.{num8, num16, num32, words, be32, joined, opAt, opBytes, headBytes, tableBytes}
+use Rattle.rules.specs.Judge.{needed, notMany, ranged, fieldTest, repeatTest, fieldsFrom, lenOk, countsOk, setOk, eachSetOk, opOk, judgeWhole, headOf, withOps, opsPlace, headTest, opsFrom, judge, Numbers, opOfNumbers, headOfNumbers, numbersTest, opsOfNumbers, judgeNumbers}
+use Rattle.theory.specs.Numbers.{opNumbers, numbersOf, opsBytes, numbersBytes, CountsFit, SetsFit, OpFits, opIn, NumbersFit}
 use Rattle.theory.proofs.Says.{says-and}
-use Rattle.theory.proofs.Verdicts.{passes, passed, then-accepts, then-first, then-rest, then-same, onwards-accepts}
-use Rattle.theory.proofs.Judging.{says-set, says-op, says-each-set, says-counts, whole-accepts}
-use Rattle.theory.proofs.Bytes.{two-bytes, four-bytes, words-back, joined-length, words-length, head-length, table-length, field-size, field-whole, ranged-yes, len-ok, fieldsOf, fields-accepted, fields-back, op-repeated}
+use Rattle.theory.proofs.Verdicts.{passes, refuses, then-accepts, then-refuses, then-same, onwards-accepts, onwards-refuses, more-refuses}
+use Rattle.theory.proofs.Judging.{HeadOk, says-set, says-op, says-each-set, says-len, says-counts, whole-accepts, numbers-end, numbers-next, numbers-row, judgeNumbers-row, numbers-ok}
+use Rattle.theory.proofs.Bytes.{past8, past16, two-bytes, four-bytes, words-back, op-back, joined-length, words-length, head-length, field-size, field-whole, field-many, field-more, no-field, ranged-yes, len-ok, fieldsOf, fields-accepted, first-tag, first-whole, first-size, op-repeated}
 
 -- ---- the operations' numbers
+
+-- numbers that are written end where there are none
+some-bytes : (ns : List ℕ) → 0 < length ns → 0 < length (opsBytes ns)
+unfolding opsBytes
+some-bytes [] h = omega arith
+some-bytes (t ∷ []) h = omega arith
+some-bytes (t ∷ d ∷ []) h = omega arith
+some-bytes (t ∷ d ∷ b ∷ []) h = omega arith
+some-bytes (t ∷ d ∷ b ∷ r ∷ []) h = omega arith
+some-bytes (t ∷ d ∷ b ∷ r ∷ w ∷ []) h = omega arith
+some-bytes (t ∷ d ∷ b ∷ r ∷ w ∷ m ∷ ns) h = omega arith
+
+no-bytes : (ns : List ℕ) → length ns ≡ 0 → length (opsBytes ns) ≡ 0
+unfolding opsBytes
+no-bytes [] h = refl
+no-bytes (t ∷ ns) h = absurd (omega arith)
+
+module _ (H : Table) (ns : List ℕ) (at : ℕ) where
+  -- the numbers of an operation, where no more may come and where one may
+  many-numbers : 0 < length ns → opsOfNumbers H ns zero at ≡ refused MANY at 0
+  unfolding notMany
+  many-numbers some =
+      numbers-end H ns at ∙ rw (ne-eqb (length ns) 0 (λ e. omega arith)) (then-refuses (accepted []) (refuses (eqb 0 0) MANY at 0 refl))
+
+  short-numbers : (left : ℕ) → 0 < length ns → length ns < 6 → opsOfNumbers H ns (suc left) at ≡ refused SHORT at 0
+  short-numbers left some few =
+      numbers-next H ns left at
+      ∙ rw (ne-eqb (length ns) 0 (λ e. omega arith)) (then-refuses _ (refuses _ SHORT at 0 (lt-ltb (length ns) 6 few)))
+
+  whole-numbers : (left : ℕ) → 6 ≤ length ns
+      → opsOfNumbers H ns (suc left) at
+      ≡ (ranged (opOk H (opOfNumbers ns)) at then more (opOfNumbers ns) (opsOfNumbers H (drop 6 ns) left (at + 21)))
+  whole-numbers left all =
+      numbers-next H ns left at
+      ∙ rw (ne-eqb (length ns) 0 (λ e. omega arith)) (then-accepts _ (passes _ SHORT at 0 (le-ltb (length ns) 6 all)))
+
+-- an operation with numbers missing: MANY where it is a 33rd, SHORT where it is not
+cut : ℕ → ℕ → Verdict (List Op)
+cut zero at = refused MANY at 0
+cut (suc left) at = refused SHORT at 0
+
+cut-numbers : (H : Table) (ns : List ℕ) (left at : ℕ) → 0 < length ns → length ns < 6 → opsOfNumbers H ns left at ≡ cut left at
+unfolding cut
+cut-numbers H ns zero at some few = many-numbers H ns at some
+cut-numbers H ns (suc left) at some few = short-numbers H ns at left some few
+
+module _ (H : Table) (pre there : List ℕ) (n : ℕ) (place : n ≡ length pre) (few : length there < 18) where
+  abbrev cut-field : List ℕ
+  cut-field = pre ++ (4 ∷ 0 ∷ 18 ∷ there)
+
+  cut-size : length cut-field ≡ n + 3 + length there
+  cut-size = omega (arith, length-append pre (4 ∷ 0 ∷ 18 ∷ there))
+
+  cut-bytes : (left : ℕ) → fieldsFrom 4 18 (opOk H) opAt cut-field left n ≡ cut left n
+  unfolding fieldsFrom repeatTest cut
+  cut-bytes zero =
+      simp (
+        lt-leb (length cut-field) n (omega (arith, cut-size)),
+        le-ltb (length cut-field) (n + 3) (omega (arith, cut-size)),
+        eq-eqb (num8 cut-field n) 4 (past8 pre (4 ∷ 0 ∷ 18 ∷ there) n 0 (omega arith)),
+      )
+  cut-bytes (suc left) =
+      simp (
+        lt-leb (length cut-field) n (omega (arith, cut-size)),
+        le-ltb (length cut-field) (n + 3) (omega (arith, cut-size)),
+        eq-eqb (num8 cut-field n) 4 (past8 pre (4 ∷ 0 ∷ 18 ∷ there) n 0 (omega arith)),
+        eqb·suc-zero,
+        eq-eqb (num16 cut-field (n + 1)) 18 (past16 pre (4 ∷ 0 ∷ 18 ∷ there) (n + 1) 1 (omega arith)),
+        lt-ltb (length cut-field) (n + 3 + 18) (omega (arith, cut-size)),
+      )
+
+-- six numbers and the rest: the operation and the rest's operations
+next-op : (t d b r w m : ℕ) (ns : List ℕ) (k : ℕ) → opIn (t ∷ d ∷ b ∷ r ∷ w ∷ m ∷ ns) (suc k) ≡ opIn ns k
+next-op t d b r w m ns k =
+    let l = t ∷ d ∷ b ∷ r ∷ w ∷ m ∷ ns in
+    let place : 6 + 6 * k ≡ 6 * suc k = omega arith in
+    ap opOfNumbers (ap (λ (i : ℕ). drop i l) (sym place) ∙ sym (drop-drop (6 * k) 6 l))
+
+-- where the whole operations fit, the numbers are judged as their bytes
+module _ (H : Table) where
+  ops-written : (ns pre : List ℕ) (left n : ℕ) → n ≡ length pre → ((k : ℕ) → 6 * k + 6 ≤ length ns → OpFits (opIn ns k))
+      → fieldsFrom 4 18 (opOk H) opAt (pre ++ opsBytes ns) left n ≡ opsOfNumbers H ns left n
+  unfolding opsBytes
+  ops-written [] pre left n place fit = no-field 4 18 (opOk H) opAt (pre ++ []) n left (omega (arith, length-append pre [])) ∙ sym (none left)
+    where
+      none : (left : ℕ) → opsOfNumbers H [] left n ≡ accepted []
+      none zero = numbers-end H [] n
+      none (suc left) = numbers-next H [] left n
+  ops-written (t ∷ []) pre left n place fit =
+      cut-bytes H pre _ n place (omega arith) left ∙ sym (cut-numbers H (t ∷ []) left n (omega arith) (omega arith))
+  ops-written (t ∷ d ∷ []) pre left n place fit =
+      cut-bytes H pre _ n place (omega arith) left ∙ sym (cut-numbers H (t ∷ d ∷ []) left n (omega arith) (omega arith))
+  ops-written (t ∷ d ∷ b ∷ []) pre left n place fit =
+      cut-bytes H pre _ n place (omega arith) left ∙ sym (cut-numbers H (t ∷ d ∷ b ∷ []) left n (omega arith) (omega arith))
+  ops-written (t ∷ d ∷ b ∷ r ∷ []) pre left n place fit =
+      cut-bytes H pre _ n place (omega arith) left ∙ sym (cut-numbers H (t ∷ d ∷ b ∷ r ∷ []) left n (omega arith) (omega arith))
+  ops-written (t ∷ d ∷ b ∷ r ∷ w ∷ []) pre left n place fit =
+      cut-bytes H pre _ n place (omega arith) left ∙ sym (cut-numbers H (t ∷ d ∷ b ∷ r ∷ w ∷ []) left n (omega arith) (omega arith))
+  ops-written (t ∷ d ∷ b ∷ r ∷ w ∷ m ∷ ns) pre left n place fit =
+      whole left (λ pre′ left′ n′ place′. ops-written ns pre′ left′ n′ place′ (λ k h. subst OpFits (next-op t d b r w m ns k) (fit (suc k) (omega arith))))
+    where
+      o : Op
+      o = record { start = t; dur = d; boards = b; reads = r; writes = w; modes = m }
+
+      whole : (left : ℕ)
+          → ((pre : List ℕ) (left n : ℕ) → n ≡ length pre → fieldsFrom 4 18 (opOk H) opAt (pre ++ opsBytes ns) left n ≡ opsOfNumbers H ns left n)
+          → fieldsFrom 4 18 (opOk H) opAt (pre ++ (opBytes o ++ opsBytes ns)) left n ≡ opsOfNumbers H (t ∷ d ∷ b ∷ r ∷ w ∷ m ∷ ns) left n
+      whole zero rest =
+          field-many 4 18 (opOk H) opAt _ n
+          (first-tag op-repeated o pre (opsBytes ns) n place)
+          (first-whole op-repeated o pre (opsBytes ns) n place)
+          (first-size op-repeated o pre (opsBytes ns) n place)
+          ∙ sym (many-numbers H (t ∷ d ∷ b ∷ r ∷ w ∷ m ∷ ns) n (omega arith))
+      whole (suc left) rest =
+          let first = op-back pre (opsBytes ns) n place o (fit 0 (omega arith)) in
+          let next : n + 3 + 18 ≡ n + 21 = omega arith in
+          let place′ : n + 3 + 18 ≡ length (pre ++ opBytes o) = omega (arith, length-append pre (opBytes o)) in
+          let more = rest (pre ++ opBytes o) left (n + 3 + 18) place′ ∙ ap (opsOfNumbers H ns left) next in
+          field-more 4 18 (opOk H) opAt _ n
+          (first-tag op-repeated o pre (opsBytes ns) n place)
+          (first-whole op-repeated o pre (opsBytes ns) n place)
+          (first-size op-repeated o pre (opsBytes ns) n place)
+          left
+          ∙ rw (first, ← append-assoc, more) (sym (whole-numbers H (t ∷ d ∷ b ∷ r ∷ w ∷ m ∷ ns) n left (omega arith)))
+
+-- a table's numbers are written as the table is
+table-ops : (os : List Op) → opsBytes (joined opNumbers os) ≡ joined opBytes os
+unfolding opsBytes joined
+table-ops [] = refl
+table-ops (o ∷ os) = ap (λ (l : List ℕ). opBytes o ++ l) (table-ops os)
+
+pub table-written : (T : Table) → numbersBytes (numbersOf T) ≡ tableBytes T
+unfolding numbersBytes numbersOf tableBytes
+table-written T = ap (λ (l : List ℕ). headBytes T ++ l) (table-ops (T .ops))
+
+-- ---- numbers that fit their fields
+
+module _ (N : Numbers) (fits : NumbersFit N) where
+  abbrev bytes : List ℕ
+  bytes = numbersBytes N
+
+  bytes-length : length bytes ≡ 18 + 4 * length (N .follow) + length (opsBytes (N .ops))
+  unfolding numbersBytes
+  bytes-length = omega (arith, length-append (headBytes (headOfNumbers N)) (opsBytes (N .ops)), head-length (headOfNumbers N))
+
+  -- the numbers before the operations are read back
+  len-back : num16 bytes 3 ≡ N .len
+  unfolding numbersBytes
+  len-back = two-bytes (N .len) (fits .len)
+
+  size-back : num16 bytes 12 ≡ 4 + 4 * length (N .follow)
+  unfolding numbersBytes
+  size-back =
+      let e = words-length (N .follow) in
+      two-bytes (length (be32 (N .first) ++ joined be32 (N .follow))) (omega arith) ∙ omega arith
+
+  first-back : num32 bytes 14 ≡ N .first
+  unfolding numbersBytes
+  first-back = four-bytes (N .first) (fits .sets .first)
+
+  follow-back : words bytes 18 (length (N .follow)) ≡ N .follow
+  unfolding numbersBytes
+  follow-back = words-back (N .follow) (take 18 bytes) (opsBytes (N .ops)) 18 (omega arith) (fits .sets .follow)
+
+  -- the test of the third field's sets
+  abbrev sets : ℕ → List ℕ → Bool
+  sets first follow = setOk (N .modes) first && eachSetOk (N .modes) follow
+
+  -- with the right count of follower words
+  module _ (count : length (N .follow) ≡ N .modes) where
+    head-back : headOf bytes ≡ headOfNumbers N
+    unfolding headOf numbersBytes
+    head-back =
+        let follow = ap (words bytes 18) (sym count) ∙ follow-back in
+        λ i. record { len = len-back i; boards = N .boards; cells = N .cells; modes = N .modes; first = first-back i; follow = follow i; ops = [] }
+
+    sets-back : sets (num32 bytes 14) (words bytes 18 (N .modes)) ≡ sets (N .first) (N .follow)
+    sets-back = simp (first-back, ← count, follow-back)
+
+    -- the bytes end before the operations where there is no number
+    needed-same : needed bytes (opsPlace (N .modes)) ≡ refuseIf (eqb (length (N .ops)) 0) ORDER (opsPlace (N .modes)) 0
+    unfolding needed
+    needed-same = ap (λ (b : Bool). refuseIf b ORDER (opsPlace (N .modes)) 0) (go (ℕ-discrete (length (N .ops)) 0))
+      where
+        go : Dec (length (N .ops) ≡ 0) → leb (length bytes) (opsPlace (N .modes)) ≡ eqb (length (N .ops)) 0
+        go (yes e) =
+            le-leb (length bytes) (opsPlace (N .modes)) (omega (arith, bytes-length, no-bytes (N .ops) e))
+            ∙ sym (eq-eqb (length (N .ops)) 0 e)
+        go (no n) =
+            lt-leb (length bytes) (opsPlace (N .modes)) (omega (arith, bytes-length, some-bytes (N .ops) (omega (arith, n))))
+            ∙ sym (ne-eqb (length (N .ops)) 0 n)
+
+    ops-same : (H : Table) → opsFrom H bytes 32 (opsPlace (N .modes)) ≡ opsOfNumbers H (N .ops) 32 (opsPlace (N .modes))
+    unfolding numbersBytes opsFrom
+    ops-same H =
+        ops-written H (N .ops) (headBytes (headOfNumbers N)) 32 (opsPlace (N .modes)) (omega (arith, head-length (headOfNumbers N))) (fits .each)
+
+  first-field : fieldTest bytes 0 1 2 (lenOk (num16 bytes 3)) ≡ ranged (lenOk (N .len)) 0
+  unfolding numbersBytes
+  first-field = field-whole bytes 0 1 2 _ refl (omega (arith, bytes-length)) refl ∙ ap (λ (p : ℕ). ranged (lenOk p) 0) len-back
+
+  second-field : (ok : Bool) → fieldTest bytes 5 2 3 ok ≡ ranged ok 5
+  unfolding numbersBytes
+  second-field ok = field-whole bytes 5 2 3 ok refl (omega (arith, bytes-length)) refl
+
+  third-tag : num8 bytes 11 ≡ 3
+  unfolding numbersBytes
+  third-tag = refl
+
+  -- the third field, with the right count and with a wrong one, and what comes after it
+  third-field : Dec (length (N .follow) ≡ N .modes)
+      → (fieldTest bytes 11 3 (4 + 4 * N .modes) (sets (num32 bytes 14) (words bytes 18 (N .modes)))
+      then needed bytes (opsPlace (N .modes)))
+      ≡ (refuseIf (not (eqb (length (N .follow)) (N .modes))) SIZE 11 0
+      then ranged (sets (N .first) (N .follow)) 11
+      then refuseIf (eqb (length (N .ops)) 0) ORDER (opsPlace (N .modes)) 0)
+  unfolding refuseIf _then_
+  third-field (yes e) =
+      then-same
+      (field-whole bytes 11 3 (4 + 4 * N .modes) _ third-tag (omega (arith, bytes-length)) (omega (arith, size-back))
+      ∙ ap (λ (b : Bool). ranged b 11) (sets-back e))
+      (λ _ _. needed-same e)
+      ∙ sym (then-accepts _ (passes (not (eqb (length (N .follow)) (N .modes))) SIZE 11 0 (simp (eq-eqb _ _ e))))
+  third-field (no n) =
+      let ok = sets (num32 bytes 14) (words bytes 18 (N .modes)) in
+      let wrong = field-size bytes 11 3 (4 + 4 * N .modes) ok third-tag (omega (arith, bytes-length)) (λ z. n (omega (arith, size-back))) in
+      simp (wrong, ne-eqb (length (N .follow)) (N .modes) n)
+
+  head-same : headTest bytes ≡ numbersTest N
+  unfolding headTest numbersTest numbersBytes
+  head-same =
+      then-same first-field
+      (λ _ _. then-same (second-field (countsOk (N .boards) (N .cells) (N .modes)))
+      (λ _ _. third-field (ℕ-discrete (length (N .follow)) (N .modes))))
+
+  -- "judged as if first written in this layout and then read"
+  pub as-written : judgeNumbers N ≡ judge bytes
+  unfolding judgeNumbers judge
+  as-written =
+      sym
+      (then-same head-same
+      (λ x e.
+      let H = headOfNumbers N in
+      let count = numbers-ok N e .0 .words in
+      ap (λ (U : Table). onwards (opsFrom U bytes 32 (opsPlace (U .modes))) (λ os. judgeWhole (withOps U os))) (head-back count)
+      ∙ ap (λ v. onwards v (λ os. judgeWhole (withOps H os))) (ops-same count H)))
+
+-- ---- numbers in their ranges fit their fields
+
+-- a set within n is one within k
+below : (k n s : ℕ) → n ≤ k → s < 2 ^ n → s < 2 ^ k
+below k n s h b = let le : 2 ^ n ≤ 2 ^ k = pow-mono h in omega arith
+
+counts-fit : (N : Numbers) → countsOk (N .boards) (N .cells) (N .modes) ≡ true → CountsFit N
+counts-fit N ok =
+    let (_, (boards, (cells, (_, modes)))) = says-counts (N .boards) (N .cells) (N .modes) .0 ok in
+    record { boards = omega arith; cells = omega arith; modes = omega arith }
+
+sets-fit : (N : Numbers) → countsOk (N .boards) (N .cells) (N .modes) ≡ true
+    → (setOk (N .modes) (N .first) && eachSetOk (N .modes) (N .follow)) ≡ true → SetsFit N
+sets-fit N ok sets =
+    let (_, (_, (_, (_, few)))) = says-counts (N .boards) (N .cells) (N .modes) .0 ok in
+    let (first, follow) = says-and _ _ (says-set (N .modes) (N .first)) (says-each-set (N .modes) (N .follow)) .0 sets in
+    record {
+      first = below 32 (N .modes) (N .first) few (first .small);
+      follow = λ a h. below 32 (N .modes) (getD (N .follow) a 0) few (follow a h .small);
+    }
+
+op-fits : (H : Table) → lenOk (H .len) ≡ true → countsOk (H .boards) (H .cells) (H .modes) ≡ true → (o : Op) → opOk H o ≡ true → OpFits o
+op-fits H len counts o h =
+    let (_, short) = says-len (H .len) .0 len in
+    let (_, (boards, (cells, (_, modes)))) = says-counts (H .boards) (H .cells) (H .modes) .0 counts in
+    let x = says-op H o .0 h in
+    record {
+      start = omega (arith, x .fits);
+      dur = omega (arith, x .fits);
+      boards = below 16 (H .boards) (o .boards) boards (x .boards .small);
+      reads = below 32 (H .cells) (o .reads) cells (x .reads);
+      writes = below 32 (H .cells) (o .writes) cells (x .writes);
+      modes = below 32 (H .modes) (o .modes) modes (x .modes .small);
+    }
+
+-- ---- what is refused, and where
+
+-- what is not in its range is refused
+out-of-range : (ok : Bool) (at : ℕ) → (ok ≡ true → ⊥) → ranged ok at ≡ refused RANGE at 0
+unfolding ranged
+out-of-range true at n = absurd (n refl)
+out-of-range false at n = refuses true RANGE at 0 refl
+
+module _ (N : Numbers) where
+  abbrev LenGood : Type 0
+  LenGood = lenOk (N .len) ≡ true
+
+  abbrev CountsGood : Type 0
+  CountsGood = countsOk (N .boards) (N .cells) (N .modes) ≡ true
+
+  -- a refusal before the operations is the verdict
+  head-refused : {n a b : ℕ} → numbersTest N ≡ refused n a b → judgeNumbers N ≡ refused n a b
+  head-refused e = judgeNumbers-row N ∙ then-refuses _ e
+
+  -- "A number too large for its field": p
+  pub len-too-large : 65536 ≤ N .len → judgeNumbers N ≡ refused RANGE 0 0
+  len-too-large large =
+      head-refused
+      (numbers-row N ∙ then-refuses _ (out-of-range _ 0 (λ e. let (_, high) = says-len (N .len) .0 e in omega arith)))
+
+  -- one of the counts
+  pub counts-too-large : LenGood → (CountsFit N → ⊥) → judgeNumbers N ≡ refused RANGE 5 0
+  counts-too-large len large =
+      head-refused
+      (numbers-row N
+      ∙ then-accepts _ (ranged-yes _ 0 len)
+      ∙ then-refuses _ (out-of-range _ 5 (λ e. large (counts-fit N e))))
+
+  -- "A wrong count of follower words is SIZE"
+  pub words-size : LenGood → CountsGood → (length (N .follow) ≡ N .modes → ⊥) → judgeNumbers N ≡ refused SIZE 11 0
+  words-size len counts wrong =
+      head-refused
+      (numbers-row N
+      ∙ then-accepts _ (ranged-yes _ 0 len)
+      ∙ then-accepts _ (ranged-yes _ 5 counts)
+      ∙ then-refuses _ (refuses _ SIZE 11 0 (rw (ne-eqb (length (N .follow)) (N .modes) wrong))))
+
+  -- as of the bytes with that many words
+  pub words-written : NumbersFit N → LenGood → CountsGood → (length (N .follow) ≡ N .modes → ⊥) → judge (numbersBytes N) ≡ refused SIZE 11 0
+  words-written fits len counts wrong = sym (as-written N fits) ∙ words-size len counts wrong
+
+  -- the first modes, or a follower word
+  pub sets-too-large : LenGood → CountsGood → length (N .follow) ≡ N .modes → (SetsFit N → ⊥) → judgeNumbers N ≡ refused RANGE 11 0
+  sets-too-large len counts count large =
+      head-refused
+      (numbers-row N
+      ∙ then-accepts _ (ranged-yes _ 0 len)
+      ∙ then-accepts _ (ranged-yes _ 5 counts)
+      ∙ then-accepts _ (passes _ SIZE 11 0 (rw (eq-eqb (length (N .follow)) (N .modes) count)))
+      ∙ then-refuses _ (out-of-range _ 11 (λ e. large (sets-fit N counts e))))
+
+  -- what stands before the operations passes
+  head-passes : HeadOk (headOfNumbers N) → 0 < length (N .ops) → numbersTest N ≡ accepted tt
+  head-passes head some =
+      numbers-row N
+      ∙ then-accepts _ (ranged-yes _ 0 (head .len))
+      ∙ then-accepts _ (ranged-yes _ 5 (head .counts))
+      ∙ then-accepts _ (passes _ SIZE 11 0 (rw (eq-eqb (length (N .follow)) (N .modes) (head .words))))
+      ∙ then-accepts _ (ranged-yes _ 11 (head .sets))
+      ∙ passes _ ORDER _ 0 (ne-eqb (length (N .ops)) 0 (λ e. omega arith))
+
+-- the first k operations in their ranges, a refusal of what comes behind them is the verdict
+ops-behind : (H : Table) (k : ℕ) (ns : List ℕ) (left all at : ℕ) {n a b : ℕ} → all ≡ k + left → 6 * k ≤ length ns
+    → ((j : ℕ) → j < k → opOk H (opIn ns j) ≡ true)
+    → opsOfNumbers H (drop (6 * k) ns) left (at + 21 * k) ≡ refused n a b → opsOfNumbers H ns all at ≡ refused n a b
+ops-behind H zero ns left all at count long good e =
+    let same : all ≡ left = omega arith in
+    let here : at ≡ at + 21 * 0 = omega arith in
+    ap (λ (m : ℕ). opsOfNumbers H ns m at) same ∙ ap (opsOfNumbers H ns left) here ∙ e
+ops-behind H (suc k) ns left zero at count long good e = absurd (omega arith)
+ops-behind H (suc k) ns left (suc all) at {n} {a} {b} count long good e =
+    let place : 6 + 6 * k ≡ 6 * suc k = omega arith in
+    let date : at + 21 * suc k ≡ at + 21 + 21 * k = omega arith in
+    let behind : (j : ℕ) → drop (6 * j) (drop 6 ns) ≡ drop (6 + 6 * j) ns = λ j. drop-drop (6 * j) 6 ns in
+    let rest : opsOfNumbers H (drop (6 * k) (drop 6 ns)) left (at + 21 + 21 * k) ≡ refused n a b =
+    ap (λ (l : List ℕ). opsOfNumbers H l left (at + 21 + 21 * k)) (behind k ∙ ap (λ (i : ℕ). drop i ns) place)
+    ∙ ap (opsOfNumbers H (drop (6 * suc k) ns) left) (sym date)
+    ∙ e
+    in
+    whole-numbers H ns at all (omega arith)
+    ∙ then-accepts _ (ranged-yes _ at (good 0 (omega arith)))
+    ∙ more-refuses _
+    (ops-behind H k (drop 6 ns) left all (at + 21) (omega arith) (omega (arith, length-drop 6 ns))
+    (λ j h.
+    let next : 6 + 6 * j ≡ 6 * suc j = omega arith in
+    ap (λ (l : List ℕ). opOk H (opOfNumbers l)) (behind j ∙ ap (λ (i : ℕ). drop i ns) next) ∙ good (suc j) (omega arith))
+    rest)
+
+-- what stands before the operations in its ranges, and the first k operations in theirs, k below 32
+module _ (N : Numbers) (head : HeadOk (headOfNumbers N)) (k : ℕ) (few : k < 32)
+    (good : (j : ℕ) → j < k → opOk (headOfNumbers N) (opIn (N .ops) j) ≡ true) where
+  behind-refused : {n a b : ℕ} → 6 * k < length (N .ops)
+      → ((left : ℕ) → opsOfNumbers (headOfNumbers N) (drop (6 * k) (N .ops)) (suc left) (opsPlace (N .modes) + 21 * k) ≡ refused n a b)
+      → judgeNumbers N ≡ refused n a b
+  behind-refused some e =
+      judgeNumbers-row N
+      ∙ then-accepts _ (head-passes N head (omega arith))
+      ∙ onwards-refuses _ (ops-behind (headOfNumbers N) k (N .ops) (suc (31 - k)) 32 _ (omega arith) (omega arith) good (e (31 - k)))
+
+  -- "an operation with numbers missing SHORT"
+  pub numbers-missing : 6 * k < length (N .ops) → length (N .ops) < 6 * k + 6 → judgeNumbers N ≡ refused SHORT (opsPlace (N .modes) + 21 * k) 0
+  numbers-missing some short =
+      let left-over = length-drop (6 * k) (N .ops) in
+      behind-refused some (λ left. short-numbers (headOfNumbers N) (drop (6 * k) (N .ops)) _ left (omega arith) (omega arith))
+
+  -- a number of operation k that is too large for its field
+  pub op-too-large : 6 * k + 6 ≤ length (N .ops) → (OpFits (opIn (N .ops) k) → ⊥) → judgeNumbers N ≡ refused RANGE (opsPlace (N .modes) + 21 * k) 0
+  op-too-large all large =
+      let left-over = length-drop (6 * k) (N .ops) in
+      behind-refused (omega arith)
+      (λ left.
+      whole-numbers (headOfNumbers N) (drop (6 * k) (N .ops)) _ left (omega arith)
+      ∙ then-refuses _
+      (out-of-range _ _ (λ e. large (op-fits (headOfNumbers N) (head .len) (head .counts) (opIn (N .ops) k) e))))
+
+-- ---- an accepted table
+
+-- its operations, as its numbers have them
+table-op : (os : List Op) (k : ℕ) → k < length os → opIn (joined opNumbers os) k ≡ getD os k noOp
+unfolding joined
+table-op [] k h = absurd (omega arith)
+table-op (o ∷ os) zero h = refl
+table-op (o ∷ os) (suc k) h = next-op (o .start) (o .dur) (o .boards) (o .reads) (o .writes) (o .modes) (joined opNumbers os) k ∙ table-op os k (omega arith)
 
 numbers-length : (os : List Op) → length (joined opNumbers os) ≡ 6 * length os
 numbers-length = joined-length opNumbers 6 (λ o. refl)
@@ -36,175 +447,44 @@ ops-numbers H (o ∷ os) (suc left) at =
     let rest = ops-numbers H os left (at + 21) ∙ ap (fieldsOf 18 (opOk H) os left) next in
     simp (eqb·suc-zero, le-ltb (length (joined opNumbers (o ∷ os))) 6 (omega arith)) (ap (λ v. ranged (opOk H o) at then more o v) rest)
 
--- ---- a table whose numbers fit their fields
-
-module _ (T : Table) (fits : TableFits T) where
-  -- the numbers before the operations are read back
-  len-back : num16 (tableBytes T) 3 ≡ T .len
-  unfolding tableBytes
-  len-back = two-bytes (T .len) (fits .len)
-
-  size-back : num16 (tableBytes T) 12 ≡ 4 + 4 * length (T .follow)
-  unfolding tableBytes
-  size-back =
-      let e = words-length (T .follow) in
-      two-bytes (length (be32 (T .first) ++ joined be32 (T .follow))) (omega arith) ∙ omega arith
-
-  first-back : num32 (tableBytes T) 14 ≡ T .first
-  unfolding tableBytes
-  first-back = four-bytes (T .first) (fits .first)
-
-  follow-back : words (tableBytes T) 18 (length (T .follow)) ≡ T .follow
-  unfolding tableBytes
-  follow-back = words-back (T .follow) (take 18 (tableBytes T)) (joined opBytes (T .ops)) 18 (omega arith) (fits .follow)
-
-  -- the test of the third field's sets
-  abbrev sets : ℕ → List ℕ → Bool
-  sets first follow = setOk (T .modes) first && eachSetOk (T .modes) follow
-
-  -- with the right count of follower words
-  module _ (count : length (T .follow) ≡ T .modes) where
-    head-back : headOf (tableBytes T) ≡ headOfNumbers (numbersOf T)
-    unfolding headOf tableBytes numbersOf
-    head-back =
-        let follow = ap (words (tableBytes T) 18) (sym count) ∙ follow-back in
-        λ i. record { len = len-back i; boards = T .boards; cells = T .cells; modes = T .modes; first = first-back i; follow = follow i; ops = [] }
-
-    sets-back : sets (num32 (tableBytes T) 14) (words (tableBytes T) 18 (T .modes)) ≡ sets (T .first) (T .follow)
-    sets-back = simp (first-back, ← count, follow-back)
-
-    -- the bytes end before the operations where there is none
-    needed-same : needed (tableBytes T) (opsPlace (T .modes)) ≡ refuseIf (eqb (length (joined opNumbers (T .ops))) 0) ORDER (opsPlace (T .modes)) 0
-    unfolding needed
-    needed-same = ap (λ (b : Bool). refuseIf b ORDER (opsPlace (T .modes)) 0) (go (ℕ-discrete (nops T) 0))
-      where
-        go : Dec (nops T ≡ 0) → leb (length (tableBytes T)) (opsPlace (T .modes)) ≡ eqb (length (joined opNumbers (T .ops))) 0
-        go (yes e) =
-            le-leb (length (tableBytes T)) (opsPlace (T .modes)) (omega (arith, table-length T))
-            ∙ sym (eq-eqb (length (joined opNumbers (T .ops))) 0 (omega (arith, numbers-length (T .ops))))
-        go (no n) =
-            lt-leb (length (tableBytes T)) (opsPlace (T .modes)) (omega (arith, table-length T))
-            ∙ sym (ne-eqb (length (joined opNumbers (T .ops))) 0 (λ e. n (omega (arith, numbers-length (T .ops)))))
-
-    ops-same : (H : Table) → opsFrom H (tableBytes T) 32 (opsPlace (T .modes)) ≡ opsOfNumbers H (joined opNumbers (T .ops)) 32 (opsPlace (T .modes))
-    unfolding tableBytes opsFrom
-    ops-same H =
-        fields-back op-repeated noOp (opOk H) (T .ops) (headBytes T) 32 (opsPlace (T .modes)) (omega (arith, head-length T)) (fits .each)
-        ∙ sym (ops-numbers H (T .ops) 32 (opsPlace (T .modes)))
-
-  first-field : fieldTest (tableBytes T) 0 1 2 (lenOk (num16 (tableBytes T) 3)) ≡ ranged (lenOk (T .len)) 0
-  unfolding tableBytes
-  first-field = field-whole (tableBytes T) 0 1 2 _ refl (omega (arith, table-length T)) refl ∙ ap (λ (p : ℕ). ranged (lenOk p) 0) len-back
-
-  second-field : (ok : Bool) → fieldTest (tableBytes T) 5 2 3 ok ≡ ranged ok 5
-  unfolding tableBytes
-  second-field ok = field-whole (tableBytes T) 5 2 3 ok refl (omega (arith, table-length T)) refl
-
-  third-tag : num8 (tableBytes T) 11 ≡ 3
-  unfolding tableBytes
-  third-tag = refl
-
-  -- the third field, with the right count and with a wrong one, and what comes after it
-  third-field : Dec (length (T .follow) ≡ T .modes)
-      → (fieldTest (tableBytes T) 11 3 (4 + 4 * T .modes) (sets (num32 (tableBytes T) 14) (words (tableBytes T) 18 (T .modes)))
-      then needed (tableBytes T) (opsPlace (T .modes)))
-      ≡ (refuseIf (not (eqb (length (T .follow)) (T .modes))) SIZE 11 0
-      then ranged (sets (T .first) (T .follow)) 11
-      then refuseIf (eqb (length (joined opNumbers (T .ops))) 0) ORDER (opsPlace (T .modes)) 0)
-  unfolding refuseIf _then_
-  third-field (yes e) =
-      then-same
-      (field-whole (tableBytes T) 11 3 (4 + 4 * T .modes) _ third-tag (omega (arith, table-length T)) (omega (arith, size-back))
-      ∙ ap (λ (b : Bool). ranged b 11) (sets-back e))
-      (λ _ _. needed-same e)
-      ∙ sym (then-accepts _ (passes (not (eqb (length (T .follow)) (T .modes))) SIZE 11 0 (simp (eq-eqb _ _ e))))
-  third-field (no n) =
-      let ok = sets (num32 (tableBytes T) 14) (words (tableBytes T) 18 (T .modes)) in
-      let wrong = field-size (tableBytes T) 11 3 (4 + 4 * T .modes) ok third-tag (omega (arith, table-length T)) (λ z. n (omega (arith, size-back))) in
-      simp (wrong, ne-eqb (length (T .follow)) (T .modes) n)
-
-  head-same : headTest (tableBytes T) ≡ numbersTest (numbersOf T)
-  unfolding headTest numbersTest tableBytes numbersOf
-  head-same =
-      then-same first-field
-      (λ _ _. then-same (second-field (countsOk (T .boards) (T .cells) (T .modes)))
-      (λ _ _. third-field (ℕ-discrete (length (T .follow)) (T .modes))))
-
-  -- numbers that pass have the right count
-  count-of : (x : Unit {0}) → numbersTest (numbersOf T) ≡ accepted x → length (T .follow) ≡ T .modes
-  unfolding numbersTest numbersOf
-  count-of x e =
-      let fault = not (eqb (length (T .follow)) (T .modes)) in
-      let rest = then-rest (ranged (countsOk (T .boards) (T .cells) (T .modes)) 5) _ (then-rest (ranged (lenOk (T .len)) 0) _ e) in
-      eqb-true _ _ (not-false _ (passed fault SIZE 11 0 (then-first (refuseIf fault SIZE 11 0) _ rest .1)))
-
-  -- "judged as if first written in this layout and then read"
-  pub as-written : judgeNumbers (numbersOf T) ≡ judge (tableBytes T)
-  unfolding judgeNumbers judge numbersOf
-  as-written =
-      sym
-      (then-same head-same
-      (λ x e.
-      let H = headOfNumbers (numbersOf T) in
-      ap (λ (U : Table). onwards (opsFrom U (tableBytes T) 32 (opsPlace (U .modes))) (λ os. judgeWhole (withOps U os))) (head-back (count-of x e))
-      ∙ ap (λ v. onwards v (λ os. judgeWhole (withOps H os))) (ops-same (count-of x e) H)))
-
--- ---- an accepted table
-
--- a set within n is one within k
-below : (k n s : ℕ) → n ≤ k → s < 2 ^ n → s < 2 ^ k
-below k n s h b = let le : 2 ^ n ≤ 2 ^ k = pow-mono h in omega arith
-
 module _ (T : Table) (ok : Accepted T) where
-  pub accepted-fits : TableFits T
+  accepted-head : HeadOk T
+  accepted-head =
+      record {
+        len = len-ok (T .len) (ok .len-low) (ok .len-high);
+        counts = says-counts _ _ _ .1 (ok .boards-low, (ok .boards-high, (ok .cells-high, (ok .modes-low, ok .modes-high))));
+        words = ok .words;
+        sets = says-and _ _ (says-set (T .modes) (T .first)) (says-each-set (T .modes) (T .follow)) .1 (ok .firsts, λ a h. ok .follows a (omega (arith, ok .words)));
+      }
+
+  accepted-fits : NumbersFit (numbersOf T)
+  unfolding numbersOf
   accepted-fits =
       record {
         len = omega arith;
-        boards = omega arith;
-        cells = omega arith;
-        modes = omega arith;
-        first = below 32 (T .modes) (T .first) (ok .modes-high) (ok .firsts .small);
+        counts = counts-fit (numbersOf T) (accepted-head .counts);
+        sets = sets-fit (numbersOf T) (accepted-head .counts) (accepted-head .sets);
         size = omega arith;
-        follow = λ a h. below 32 (T .modes) (followers T a) (ok .modes-high) (ok .follows a (omega arith) .small);
         each =
-            λ i h.
-            let o = ok .each i h in
-            record {
-              start = omega arith;
-              dur = omega arith;
-              boards = below 16 (T .boards) (op T i .boards) (ok .boards-high) (o .boards .small);
-              reads = below 32 (T .cells) (op T i .reads) (ok .cells-high) (o .reads);
-              writes = below 32 (T .cells) (op T i .writes) (ok .cells-high) (o .writes);
-              modes = below 32 (T .modes) (op T i .modes) (ok .modes-high) (o .modes .small);
-            };
+            λ k h.
+            let inside : k < nops T = omega (arith, numbers-length (T .ops)) in
+            subst OpFits (sym (table-op (T .ops) k inside))
+            (op-fits T (accepted-head .len) (accepted-head .counts) (op T k) (says-op T (op T k) .1 (ok .each k inside)));
       }
 
-  numbers-pass : numbersTest (numbersOf T) ≡ accepted tt
-  unfolding numbersTest numbersOf
-  numbers-pass =
-      then-accepts _ (ranged-yes (lenOk (T .len)) 0 (len-ok (T .len) (ok .len-low) (ok .len-high)))
-      ∙ then-accepts _
-      (ranged-yes (countsOk (T .boards) (T .cells) (T .modes)) 5
-      (says-counts _ _ _ .1 (ok .boards-low, (ok .boards-high, (ok .cells-high, (ok .modes-low, ok .modes-high))))))
-      ∙ then-accepts _ (passes (not (eqb (length (T .follow)) (T .modes))) SIZE 11 0 (rw (eq-eqb _ _ (ok .words))))
-      ∙ then-accepts _
-      (ranged-yes (setOk (T .modes) (T .first) && eachSetOk (T .modes) (T .follow)) 11
-      (says-and _ _ (says-set (T .modes) (T .first)) (says-each-set (T .modes) (T .follow)) .1 (ok .firsts, λ a h. ok .follows a (omega arith))))
-      ∙ passes (eqb (length (joined opNumbers (T .ops))) 0) ORDER _ 0
-      (ne-eqb (length (joined opNumbers (T .ops))) 0 (λ e. omega (arith, numbers-length (T .ops))))
-
-  numbers-ops : opsOfNumbers (headOfNumbers (numbersOf T)) (joined opNumbers (T .ops)) 32 (opsPlace (T .modes)) ≡ accepted (T .ops)
-  unfolding numbersOf opOk
-  numbers-ops =
-      ops-numbers (headOfNumbers (numbersOf T)) (T .ops) 32 (opsPlace (T .modes))
-      ∙ fields-accepted noOp 18 (opOk T) (T .ops) 32 (opsPlace (T .modes)) (ok .ops-high) (λ i h. says-op T (op T i) .1 (ok .each i h))
-
   pub accepted-numbers : judgeNumbers (numbersOf T) ≡ accepted T
-  unfolding judgeNumbers numbersOf
+  unfolding numbersOf opOk
   accepted-numbers =
-      then-accepts _ numbers-pass
-      ∙ onwards-accepts (λ os. judgeWhole (withOps (headOfNumbers (numbersOf T)) os)) numbers-ops
+      let H = headOfNumbers (numbersOf T) in
+      judgeNumbers-row (numbersOf T)
+      ∙ then-accepts _
+      (head-passes (numbersOf T)
+      (record { len = accepted-head .len; counts = accepted-head .counts; words = accepted-head .words; sets = accepted-head .sets })
+      (omega (arith, numbers-length (T .ops))))
+      ∙ onwards-accepts (λ os. judgeWhole (withOps H os))
+      (ops-numbers H (T .ops) 32 (opsPlace (T .modes))
+      ∙ fields-accepted noOp 18 (opOk T) (T .ops) 32 (opsPlace (T .modes)) (ok .ops-high) (λ i h. says-op T (op T i) .1 (ok .each i h)))
       ∙ whole-accepts T ok
 
   pub write-read : judge (tableBytes T) ≡ accepted T
-  write-read = sym (as-written T accepted-fits) ∙ accepted-numbers
+  write-read = ap judge (sym (table-written T)) ∙ sym (as-written (numbersOf T) accepted-fits) ∙ accepted-numbers

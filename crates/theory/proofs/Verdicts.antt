@@ -90,6 +90,10 @@ module _ {A : Type 0} where
   unfolding more
   more-accepts x e = rw e
 
+  pub more-refuses : {n a b : ℕ} {v : Verdict (List A)} (x : A) → v ≡ refused n a b → more x v ≡ refused n a b
+  unfolding more
+  more-refuses x e = rw e
+
   pub more-first : (x : A) (v : Verdict (List A)) {ys : List A} → more x v ≡ accepted ys → (xs : List A) × (v ≡ accepted xs) × (ys ≡ x ∷ xs)
   unfolding more
   more-first x (accepted xs) e = (xs, refl, cc)

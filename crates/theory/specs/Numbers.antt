@@ -1,11 +1,11 @@
--- A table as numbers, and when its numbers fit the fields of the layout.
+-- A table handed over as numbers: the bytes that are written for it, and when its numbers fit their fields.
 -- Assumes nothing.
-use Prim.Native.Nat.{ℕ, _+_, _*_, _^_, _<_}
-use mathlib.Core.List.{List, [], _∷_}
-use lib.ListN.{length}
-use Rattle.rules.specs.Table.{Op, Table, nops, op, followers}
-use Rattle.rules.specs.Bytes.{joined}
-use Rattle.rules.specs.Judge.{Numbers}
+use Prim.Native.Nat.{ℕ, _+_, _*_, _^_, _<_, _≤_}
+use mathlib.Core.List.{List, [], _∷_, _++_}
+use lib.ListN.{length, getD, drop}
+use Rattle.rules.specs.Table.{Op, Table}
+use Rattle.rules.specs.Bytes.{be16, be32, joined, opBytes, headBytes}
+use Rattle.rules.specs.Judge.{Numbers, opOfNumbers, headOfNumbers}
 
 -- "six for each operation, in layout order"
 abbrev pub opNumbers : Op → List ℕ
@@ -25,6 +25,41 @@ numbersOf T =
       ops = joined opNumbers (T .ops);
     }
 
+-- ---- "as if first written in this layout"
+
+-- the field of an operation with numbers missing: its header, and the bytes of the numbers that are there
+abbrev cutBytes : List ℕ → List ℕ
+cutBytes there = 4 ∷ be16 18 ++ there
+
+-- six numbers are an operation's field; what is left over at the end is one with numbers missing
+unfoldable pub opsBytes : List ℕ → List ℕ
+opsBytes [] = []
+opsBytes (t ∷ []) = cutBytes (be16 t)
+opsBytes (t ∷ d ∷ []) = cutBytes (be16 t ++ be16 d)
+opsBytes (t ∷ d ∷ b ∷ []) = cutBytes (be16 t ++ be16 d ++ be16 b)
+opsBytes (t ∷ d ∷ b ∷ r ∷ []) = cutBytes (be16 t ++ be16 d ++ be16 b ++ be32 r)
+opsBytes (t ∷ d ∷ b ∷ r ∷ w ∷ []) = cutBytes (be16 t ++ be16 d ++ be16 b ++ be32 r ++ be32 w)
+opsBytes (t ∷ d ∷ b ∷ r ∷ w ∷ m ∷ ns) =
+    opBytes (record { start = t; dur = d; boards = b; reads = r; writes = w; modes = m }) ++ opsBytes ns
+
+-- the fields 01, 02 and 03, with as many follower words as there are, and the operations' fields
+unfoldable pub numbersBytes : Numbers → List ℕ
+unfolding joined opsBytes
+numbersBytes N = headBytes (headOfNumbers N) ++ opsBytes (N .ops)
+
+-- ---- numbers that fit their fields
+
+-- "boards, cells, modes, a byte each"
+pub record CountsFit (N : Numbers) : Type 0 where
+  pub boards : N .boards < 256
+  pub cells : N .cells < 256
+  pub modes : N .modes < 256
+
+-- "first modes, then the followers of mode 0, 1, .. as 32-bit sets"
+pub record SetsFit (N : Numbers) : Type 0 where
+  pub first : N .first < 2 ^ 32
+  pub follow : (a : ℕ) → a < length (N .follow) → getD (N .follow) a 0 < 2 ^ 32
+
 -- "start, duration, boards (16 bits each), reads, writes, modes (32 bits each)"
 pub record OpFits (o : Op) : Type 0 where
   pub start : o .start < 65536
@@ -34,13 +69,15 @@ pub record OpFits (o : Op) : Type 0 where
   pub writes : o .writes < 2 ^ 32
   pub modes : o .modes < 2 ^ 32
 
--- each number of T fits its field, and so does the length of the field of the followers
-pub record TableFits (T : Table) : Type 0 where
-  pub len : T .len < 65536
-  pub boards : T .boards < 256
-  pub cells : T .cells < 256
-  pub modes : T .modes < 256
-  pub first : T .first < 2 ^ 32
-  pub size : 4 + 4 * length (T .follow) < 65536
-  pub follow : (a : ℕ) → a < length (T .follow) → followers T a < 2 ^ 32
-  pub each : (i : ℕ) → i < nops T → OpFits (op T i)
+-- the operation k of a list of numbers
+abbrev pub opIn : List ℕ → ℕ → Op
+opIn ns k = opOfNumbers (drop (6 * k) ns)
+
+-- each number fits its field, and so does the length of the field of the followers. (Nothing is asked of the numbers of an operation with
+-- numbers missing: it is refused before they are looked at.)
+pub record NumbersFit (N : Numbers) : Type 0 where
+  pub len : N .len < 65536
+  pub counts : CountsFit N
+  pub sets : SetsFit N
+  pub size : 4 + 4 * length (N .follow) < 65536
+  pub each : (k : ℕ) → 6 * k + 6 ≤ length (N .ops) → OpFits (opIn (N .ops) k)
