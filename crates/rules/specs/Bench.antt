@@ -42,7 +42,7 @@ abbrev pub k4 : Table
 k4 = oneMode 4 1 0 (opn 0 1 1 0 0 1 ∷ opn 3 1 1 0 0 1 ∷ [])
 
 -- "K5*: p 4; two modes that alternate, first is mode 0; [0,4) board 0 in mode 0; [0,4) board 1 in mode 1."
-abbrev pub twoModes : List ℕ → Table
+abbrev twoModes : List ℕ → Table
 twoModes f =
     record {
       len = 4;

@@ -91,7 +91,7 @@ put-length bytes out = go (decLt (length out) (length bytes))
         ap (λ (w : Written). length (w .buffer)) (put-room bytes out (omega arith))
         ∙ omega (arith, length-append bytes (drop (length bytes) out), length-drop (length bytes) out)
 
-pub written-length : (v : Verdict (List ℕ)) (out : List ℕ) → length (written v out .buffer) ≡ length out
+written-length : (v : Verdict (List ℕ)) (out : List ℕ) → length (written v out .buffer) ≡ length out
 unfolding written
 written-length (accepted bytes) out = put-length bytes out
 written-length (refused n a b) out = refl

@@ -48,7 +48,7 @@ past32 pre s n k e = cc (past16 pre s n k e, past16 pre s (n + 2) (k + 2) (omega
 
 -- what is written at a place is read there
 module _ (pre post : List ℕ) (n : ℕ) (place : n ≡ length pre) where
-  pub num32-back : (x : ℕ) → x < 2 ^ 32 → num32 (pre ++ (be32 x ++ post)) n ≡ x
+  num32-back : (x : ℕ) → x < 2 ^ 32 → num32 (pre ++ (be32 x ++ post)) n ≡ x
   num32-back x h = past32 pre (be32 x ++ post) n 0 (omega arith) ∙ four-bytes x h
 
   pub op-back : (o : Op) → OpFits o → opAt (pre ++ (opBytes o ++ post)) n ≡ o
@@ -83,7 +83,7 @@ joined-length f w h (x ∷ xs) = omega (arith, length-append (f x) (joined f xs)
 pub words-length : (ws : List ℕ) → length (joined be32 ws) ≡ 4 * length ws
 words-length = joined-length be32 4 (λ x. refl)
 
-pub ops-length : (os : List Op) → length (joined opBytes os) ≡ 21 * length os
+ops-length : (os : List Op) → length (joined opBytes os) ≡ 21 * length os
 ops-length = joined-length opBytes 21 (λ o. refl)
 
 pub head-length : (T : Table) → length (headBytes T) ≡ 18 + 4 * length (T .follow)

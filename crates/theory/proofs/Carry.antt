@@ -125,7 +125,7 @@ module _ (S T : Table) (s t f : ℕ → ℕ) (c : Carry S T s t f) where
           q .start,
         )
 
-    pub carry-right : (d : ℕ → ℕ) → RightAt T d → RightAt S d
+    carry-right : (d : ℕ → ℕ) → RightAt T d → RightAt S d
     carry-right d x = record { boards = carry-boards d (x .boards); values = carry-values d (x .values) }
 
 -- a table of better knowledge is carried into the first by the maps that change nothing

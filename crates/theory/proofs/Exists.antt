@@ -26,11 +26,11 @@ use Rattle.theory.proofs.Values.{values-longer}
 use Rattle.theory.proofs.Period.{length-right}
 
 -- ---- the smallest number from 1 up at which a statement holds
-pub record Least (P : ℕ → Type 0) (top q : ℕ) : Type 0 where
-  pub low : 1 ≤ q
-  pub high : q ≤ top
-  pub holds : P q
-  pub none : (shorter : ℕ) → 1 ≤ shorter → shorter < q → P shorter → ⊥
+record Least (P : ℕ → Type 0) (top q : ℕ) : Type 0 where
+  low : 1 ≤ q
+  high : q ≤ top
+  holds : P q
+  none : (shorter : ℕ) → 1 ≤ shorter → shorter < q → P shorter → ⊥
 
 module _ (P : ℕ → Type 0) (f : ℕ → Bool) (says : (q : ℕ) → 1 ≤ q → Says (f q) (P q)) where
   -- one number more is passed
@@ -54,21 +54,21 @@ module _ (P : ℕ → Type 0) (f : ℕ → Bool) (says : (q : ℕ) → 1 ≤ q �
       go (holds y) k = rw y (record { low = h; high = omega arith; holds = says q h .0 y; none = none })
       go (fails y) k = rw y (k (λ z. clash-bool (says q h .1 z) y))
 
-  pub least-of : (top : ℕ) → 1 ≤ top → P top → Least P top (firstFrom f (top - 1) 1)
+  least-of : (top : ℕ) → 1 ≤ top → P top → Least P top (firstFrom f (top - 1) 1)
   least-of top h x = least-from (top - 1) 1 top (omega arith) (omega arith) x (λ p a b. absurd (omega arith))
 
 -- ---- adding to a set: the number grows, or there was nothing new. For a loop that adds what follows, 2 ^ n less the set is a measure
 pub or-grows : (a b : ℕ) → (bitOr a b ≡ a → ⊥) → a < bitOr a b
 or-grows a b n = omega (arith, or-add-and a b, and-le-r a b)
 
-pub or-same : (a b : ℕ) → bitOr a b ≡ a → Within b a
+or-same : (a b : ℕ) → bitOr a b ≡ a → Within b a
 or-same a b e m h = subst (λ (x : ℕ). In m x) e (in-or m a b .1 (inr h))
 
 cond-lt : (t : Bool) (f k : ℕ) → f < k → cond t f 0 < k
 cond-lt Bool.true f k h = h
 cond-lt Bool.false f k h = omega arith
 
-pub step-lt : (F : List ℕ) (k s : ℕ) → ((a : ℕ) → getD F a 0 < 2 ^ k) → step F s < 2 ^ k
+step-lt : (F : List ℕ) (k s : ℕ) → ((a : ℕ) → getD F a 0 < 2 ^ k) → step F s < 2 ^ k
 unfolding step
 step-lt [] k s h = pow-pos k
 step-lt (f ∷ fs) k s h =

@@ -219,7 +219,7 @@ module _ (hit : Op → Op → Bool) (number : ℕ) (T : Table) where
   )
 
 -- the row of tests that the judgement of the pairs is
-whole-row : (T : Table) → judgeWhole T ≡ (pairsTest clashes CLASH T then pairsTest races RACE T then accepted T)
+pub whole-row : (T : Table) → judgeWhole T ≡ (pairsTest clashes CLASH T then pairsTest races RACE T then accepted T)
 unfolding judgeWhole
 whole-row T = refl
 

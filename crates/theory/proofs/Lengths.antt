@@ -1,21 +1,25 @@
 -- The length of an accepted table's bytes, and that no verdict depends on bytes past 821.
 -- Assumes nothing.
-use Prim.Native.Nat.{ℕ, zero, suc, _+_, _*_, _<_, _≤_}
+use Prim.Native.Nat.{ℕ, zero, suc, _+_, _-_, _*_, _<_, _≤_}
 use mathlib.Core.Path.{_≡_, refl, sym, ap, subst, _∙_}
 use mathlib.Core.Bool.{Bool, true, false}
-use mathlib.Core.List.{List}
+use mathlib.Core.List.{List, [], _∷_}
 use native.Mathlib.Omega.{arith}
 use lib.Dec.{leb, ltb}
-use lib.ListN.{length, take, length-take}
+use lib.ListN.{length, getD, take, replicate, length-take, length-replicate, getD-replicate}
 use lib.Seq.{getD-take}
 use borrow.Author.Tests.{eqb-false}
-use Rattle.rules.specs.Table.{Table, nops}
-use Rattle.rules.specs.Verdicts.{accepted, MANY}
-use Rattle.rules.specs.Bytes.{num8, num16, num32, words, opAt, longestTable, farthest}
-use Rattle.rules.specs.Judge.{needed, header, due, notMany, sized, complete, fieldTest, repeatTest, fieldsFrom, lenOk, countsOk, opOk, headTest, headOf, opsFrom, opsPlace, judge}
+use Rattle.rules.specs.Sets.{Overlap}
+use Rattle.rules.specs.Table.{Op, Table, noOp, nops, op, endOf, SetOf, Accepted}
+use Rattle.rules.specs.Verdicts.{accepted, refused, MANY, CLASH}
+use Rattle.rules.specs.Bytes.{num8, num16, num32, words, opAt, tableBytes, longestTable, farthest}
+use Rattle.rules.specs.Judge.{needed, header, due, notMany, sized, complete, fieldTest, repeatTest, fieldsFrom, lenOk, countsOk, setOk, eachSetOk, opOk, clashes, headTest, headOf, opsFrom, opsPlace, judge}
+use Rattle.rules.specs.Bench.{opn, oneMode}
 use Rattle.theory.proofs.Says.{Says, says-leb, says-ltb}
-use Rattle.theory.proofs.Verdicts.{passed, then-same}
-use Rattle.theory.proofs.Judging.{field-row, repeat-row, fields-end, fields-next, head-row, head-ok, judge-row, field-passed, says-counts, whole-accepted, judge-parts, judge-accepted}
+use Rattle.theory.proofs.Verdicts.{passed, then-refuses, then-same}
+use Rattle.theory.proofs.Judging.{field-row, repeat-row, fields-end, fields-next, head-row, head-ok, judge-row, field-passed, says-counts, HeadOk, pairs-first, whole-row, whole-accepted, judge-parts, judge-accepted}
+use Rattle.theory.proofs.Bytes.{table-length}
+use Rattle.theory.proofs.Numbers.{ranges-written, write-read}
 
 -- a table's bytes: 18, 4 for each mode and 21 for each operation
 pub table-size : (s : List ℕ) (T : Table) → judge s ≡ accepted T → length s ≡ 18 + 4 * T .modes + 21 * nops T
@@ -26,6 +30,120 @@ table-size s T e =
 -- "The longest table has 818 bytes."
 pub longest : (s : List ℕ) (T : Table) → judge s ≡ accepted T → length s ≤ longestTable
 longest s T e = let ok = judge-accepted s T e in omega (arith, table-size s T e)
+
+-- ---- a table of that length is accepted: 32 modes, each follows each, and 32 operations, each on all boards in a tick of its own
+abbrev full : ℕ
+full = 4294967295
+
+full-set : SetOf 32 full
+full-set = record { some = omega arith; small = omega arith }
+
+abbrev inTick : ℕ → Op
+inTick t = opn t 1 65535 full full full
+
+inTicks : ℕ → List Op
+inTicks zero = []
+inTicks (suc n) = inTick n ∷ inTicks n
+
+inTicks-length : (n : ℕ) → length (inTicks n) ≡ n
+unfolding inTicks
+inTicks-length zero = refl
+inTicks-length (suc n) = ap suc (inTicks-length n)
+
+inTicks-at : (n i : ℕ) → i < n → getD (inTicks n) i noOp ≡ inTick (n - suc i)
+unfolding inTicks
+inTicks-at zero i h = absurd (omega arith)
+inTicks-at (suc n) zero h = ap inTick (omega arith)
+inTicks-at (suc n) (suc i) h = inTicks-at n i (omega arith) ∙ ap inTick (omega arith)
+
+abbrev largest : Table
+largest =
+    record {
+      len = 1000;
+      boards = 16;
+      cells = 32;
+      modes = 32;
+      first = full;
+      follow = replicate 32 full;
+      ops = inTicks 32;
+    }
+
+largest-op : (i : ℕ) → i < nops largest → op largest i ≡ inTick (31 - i)
+largest-op i h = inTicks-at 32 i (omega (arith, inTicks-length 32)) ∙ ap inTick (omega arith)
+
+-- two of them do not overlap
+apart : (i j : ℕ) → i < j → j < nops largest
+    → Overlap (op largest i .start) (endOf (op largest i)) (op largest j .start) (endOf (op largest j)) → ⊥
+apart i j h k lap =
+    let here = largest-op i (omega arith) in
+    let there = largest-op j k in
+    let lap′ : Overlap (31 - i) (31 - i + 1) (31 - j) (31 - j + 1) = rw (here, there) at lap in
+    omega (arith, inTicks-length 32, lap′ .1)
+
+largest-accepted : Accepted largest
+largest-accepted =
+    record {
+      len-low = omega arith;
+      len-high = omega arith;
+      boards-low = omega arith;
+      boards-high = omega arith;
+      cells-high = omega arith;
+      modes-low = omega arith;
+      modes-high = omega arith;
+      ops-low = omega (arith, inTicks-length 32);
+      ops-high = omega (arith, inTicks-length 32);
+      firsts = full-set;
+      words = length-replicate {A = ℕ} 32 full;
+      follows = λ a h. rw (getD-replicate 32 a full 0 h) full-set;
+      each =
+          λ i h.
+          rw (largest-op i h)
+          (record {
+            lasts = omega arith;
+            fits = omega arith;
+            boards = record { some = omega arith; small = omega arith };
+            reads = omega arith;
+            writes = omega arith;
+            modes = full-set;
+          });
+      no-clash = λ i j h k x. apart i j h k (x .lap);
+      no-race = λ i j h k x. apart i j h k (x .lap);
+    }
+
+pub longest-reached : (s : List ℕ) × (T : Table) × (judge s ≡ accepted T) × (length s ≡ longestTable)
+longest-reached = (
+  tableBytes largest,
+  largest,
+  write-read largest largest-accepted,
+  table-length largest ∙ omega (arith, length-replicate {A = ℕ} 32 full, inTicks-length 32),
+)
+
+-- "K1's operation 32 times: refused 6 0 1"
+abbrev k1-times : Table
+k1-times = oneMode 5 1 0 (replicate 32 (opn 1 3 1 0 0 1))
+
+times-head : HeadOk k1-times
+unfolding lenOk countsOk setOk eachSetOk
+times-head = record { len = refl; counts = refl; words = refl; sets = refl }
+
+times-op : (i : ℕ) → i < 32 → opOk k1-times (op k1-times i) ≡ true
+unfolding opOk
+times-op i h = rw (getD-replicate 32 i (opn 1 3 1 0 0 1) noOp h)
+
+pub clash-of-32 : judge (tableBytes k1-times) ≡ refused 6 0 1
+unfolding clashes
+clash-of-32 =
+    ranges-written k1-times times-head (omega arith) (omega arith) (λ i h. times-op i h)
+    ∙ whole-row k1-times
+    ∙ then-refuses _
+    (pairs-first clashes CLASH k1-times 0 1 .1
+    (record {
+      less = omega arith;
+      within = omega arith;
+      holds = refl;
+      rows = λ k l h. absurd (omega arith);
+      row = λ l h k. absurd (omega arith);
+    }))
 
 -- ---- an input and its first n bytes
 

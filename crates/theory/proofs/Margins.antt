@@ -15,11 +15,11 @@ use Rattle.rules.specs.Table.{Table, nops, op, endOf, Accepted}
 use Rattle.rules.specs.Rows.{margin}
 
 -- ---- a difference of two numbers, by their order
-pub diff-ge : (a b : ℕ) → b ≤ a → pos a -ℤ pos b ≡ pos (a - b)
+diff-ge : (a b : ℕ) → b ≤ a → pos a -ℤ pos b ≡ pos (a - b)
 diff-ge a zero h = ap pos (omega arith)
 diff-ge a (suc b) h = ap (λ (t : Bool). cond t (negsuc (suc b - suc a)) (pos (a - suc b))) (le-ltb a (suc b) h)
 
-pub diff-lt : (a b : ℕ) → a < b → pos a -ℤ pos b ≡ negsuc (b - suc a)
+diff-lt : (a b : ℕ) → a < b → pos a -ℤ pos b ≡ negsuc (b - suc a)
 diff-lt a zero h = absurd (omega arith)
 diff-lt a (suc b) h = ap (λ (t : Bool). cond t (negsuc (suc b - suc a)) (pos (a - suc b))) (lt-ltb a (suc b) h)
 
@@ -40,15 +40,15 @@ module _ (T : Table) (i j n q : ℕ) where
       ∙ sym (+ℤ-assoc (pos (n * q)) start end)
 
   -- the ticks from the end of i to the start of j
-  pub margin-ended : endOf (op T i) ≤ op T j .start + n * q → margin T i j n q ≡ pos (op T j .start + n * q - endOf (op T i))
+  margin-ended : endOf (op T i) ≤ op T j .start + n * q → margin T i j n q ≡ pos (op T j .start + n * q - endOf (op T i))
   margin-ended h = margin-as ∙ diff-ge (n * q + op T j .start) (endOf (op T i)) (omega arith) ∙ ap pos (omega arith)
 
   -- the ticks by which i ends after j starts: m + 1 of them are `negsuc m`
-  pub margin-late : op T j .start + n * q < endOf (op T i) → margin T i j n q ≡ negsuc (endOf (op T i) - suc (op T j .start + n * q))
+  margin-late : op T j .start + n * q < endOf (op T i) → margin T i j n q ≡ negsuc (endOf (op T i) - suc (op T j .start + n * q))
   margin-late h = margin-as ∙ diff-lt (n * q + op T j .start) (endOf (op T i)) (omega arith) ∙ ap negsuc (omega arith)
 
   -- not negative exactly when i has ended by the start of j
-  pub margin-pos : ((m : ℕ) × (margin T i j n q ≡ pos m)) ↔ (endOf (op T i) ≤ op T j .start + n * q)
+  margin-pos : ((m : ℕ) × (margin T i j n q ≡ pos m)) ↔ (endOf (op T i) ≤ op T j .start + n * q)
   margin-pos = (λ x. go x (decLt (op T j .start + n * q) (endOf (op T i))), λ h. (_, margin-ended h))
     where
       go : (m : ℕ) × (margin T i j n q ≡ pos m) → Dec (op T j .start + n * q < endOf (op T i)) → endOf (op T i) ≤ op T j .start + n * q

@@ -447,6 +447,38 @@ ops-numbers H (o ∷ os) (suc left) at =
     let rest = ops-numbers H os left (at + 21) ∙ ap (fieldsOf 18 (opOk H) os left) next in
     simp (eqb·suc-zero, le-ltb (length (joined opNumbers (o ∷ os))) 6 (omega arith)) (ap (λ v. ranged (opOk H o) at then more o v) rest)
 
+-- a table in its ranges is judged by its pairs, handed over and written
+module _ (T : Table) (head : HeadOk T) (some : 1 ≤ nops T) (few : nops T ≤ 32) (good : (i : ℕ) → i < nops T → opOk T (op T i) ≡ true) where
+  ranges-fit : NumbersFit (numbersOf T)
+  unfolding numbersOf
+  ranges-fit =
+      let (_, short) = says-len (T .len) .0 (head .len) in
+      let (_, (_, (_, (_, modes)))) = says-counts (T .boards) (T .cells) (T .modes) .0 (head .counts) in
+      record {
+        len = omega arith;
+        counts = counts-fit (numbersOf T) (head .counts);
+        sets = sets-fit (numbersOf T) (head .counts) (head .sets);
+        size = omega (arith, head .words);
+        each =
+            λ k h.
+            let inside : k < nops T = omega (arith, numbers-length (T .ops)) in
+            subst OpFits (sym (table-op (T .ops) k inside)) (op-fits T (head .len) (head .counts) (op T k) (good k inside));
+      }
+
+  ranges-numbers : judgeNumbers (numbersOf T) ≡ judgeWhole T
+  unfolding numbersOf opOk
+  ranges-numbers =
+      let H = headOfNumbers (numbersOf T) in
+      judgeNumbers-row (numbersOf T)
+      ∙ then-accepts _
+      (head-passes (numbersOf T) (record { len = head .len; counts = head .counts; words = head .words; sets = head .sets })
+      (omega (arith, numbers-length (T .ops))))
+      ∙ onwards-accepts (λ os. judgeWhole (withOps H os))
+      (ops-numbers H (T .ops) 32 (opsPlace (T .modes)) ∙ fields-accepted noOp 18 (opOk T) (T .ops) 32 (opsPlace (T .modes)) few good)
+
+  pub ranges-written : judge (tableBytes T) ≡ judgeWhole T
+  ranges-written = ap judge (sym (table-written T)) ∙ sym (as-written (numbersOf T) ranges-fit) ∙ ranges-numbers
+
 module _ (T : Table) (ok : Accepted T) where
   accepted-head : HeadOk T
   accepted-head =
@@ -454,37 +486,16 @@ module _ (T : Table) (ok : Accepted T) where
         len = len-ok (T .len) (ok .len-low) (ok .len-high);
         counts = says-counts _ _ _ .1 (ok .boards-low, (ok .boards-high, (ok .cells-high, (ok .modes-low, ok .modes-high))));
         words = ok .words;
-        sets = says-and _ _ (says-set (T .modes) (T .first)) (says-each-set (T .modes) (T .follow)) .1 (ok .firsts, λ a h. ok .follows a (omega (arith, ok .words)));
+        sets =
+            says-and _ _ (says-set (T .modes) (T .first)) (says-each-set (T .modes) (T .follow)) .1
+            (ok .firsts, λ a h. ok .follows a (omega (arith, ok .words)));
       }
 
-  accepted-fits : NumbersFit (numbersOf T)
-  unfolding numbersOf
-  accepted-fits =
-      record {
-        len = omega arith;
-        counts = counts-fit (numbersOf T) (accepted-head .counts);
-        sets = sets-fit (numbersOf T) (accepted-head .counts) (accepted-head .sets);
-        size = omega arith;
-        each =
-            λ k h.
-            let inside : k < nops T = omega (arith, numbers-length (T .ops)) in
-            subst OpFits (sym (table-op (T .ops) k inside))
-            (op-fits T (accepted-head .len) (accepted-head .counts) (op T k) (says-op T (op T k) .1 (ok .each k inside)));
-      }
+  accepted-ops : (i : ℕ) → i < nops T → opOk T (op T i) ≡ true
+  accepted-ops i h = says-op T (op T i) .1 (ok .each i h)
 
   pub accepted-numbers : judgeNumbers (numbersOf T) ≡ accepted T
-  unfolding numbersOf opOk
-  accepted-numbers =
-      let H = headOfNumbers (numbersOf T) in
-      judgeNumbers-row (numbersOf T)
-      ∙ then-accepts _
-      (head-passes (numbersOf T)
-      (record { len = accepted-head .len; counts = accepted-head .counts; words = accepted-head .words; sets = accepted-head .sets })
-      (omega (arith, numbers-length (T .ops))))
-      ∙ onwards-accepts (λ os. judgeWhole (withOps H os))
-      (ops-numbers H (T .ops) 32 (opsPlace (T .modes))
-      ∙ fields-accepted noOp 18 (opOk T) (T .ops) 32 (opsPlace (T .modes)) (ok .ops-high) (λ i h. says-op T (op T i) .1 (ok .each i h)))
-      ∙ whole-accepts T ok
+  accepted-numbers = ranges-numbers T accepted-head (ok .ops-low) (ok .ops-high) accepted-ops ∙ whole-accepts T ok
 
   pub write-read : judge (tableBytes T) ≡ accepted T
-  write-read = ap judge (sym (table-written T)) ∙ sym (as-written (numbersOf T) accepted-fits) ∙ accepted-numbers
+  write-read = ranges-written T accepted-head (ok .ops-low) (ok .ops-high) accepted-ops ∙ whole-accepts T ok

@@ -25,7 +25,7 @@ pub unfold-fold : (q t : ℕ) → unfoldAt (ticks q) (foldAt (ticks q) (ticks t)
 unfold-fold q t = ap ticks (omega (arith, div-add-mod' t q))
 
 -- the folded start is below the period
-pub fold-below : (q t : ℕ) → 1 ≤ q → foldAt (ticks q) (ticks t) .start .number < q
+fold-below : (q t : ℕ) → 1 ≤ q → foldAt (ticks q) (ticks t) .start .number < q
 fold-below q t low = omega (arith, div-add-mod' t q, mod-lt t low)
 
 -- the row of an operation
@@ -98,7 +98,7 @@ module _ (R : Reply) (d : Row) (low : 1 ≤ R .period .number) (high : R .period
       (λ i h. row-fits _ _ low high (each i h))
       ∙ fields-accepted d 4 (rowOk (R .period .number)) (R .rows) 32 5 few each
 
-  pub reply-back : judgeReply (replyBytes R) ≡ accepted R
+  reply-back : judgeReply (replyBytes R) ≡ accepted R
   unfolding judgeReply
   reply-back =
       then-accepts _ reply-passes

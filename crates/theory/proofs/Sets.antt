@@ -21,7 +21,7 @@ pub in-bit : (m s : ℕ) → In m s ↔ bit s m ≡ 1
 unfolding has
 in-bit m s = says-eqb (bit s m) 1
 
-pub bit-zero : (s : ℕ) → bit s 0 ≡ s % 2
+bit-zero : (s : ℕ) → bit s 0 ≡ s % 2
 bit-zero s = ap (λ (x : ℕ). x % 2) (div-one s)
 
 pub bit-suc : (s m : ℕ) → bit s (suc m) ≡ bit (s / 2) m
@@ -41,13 +41,13 @@ low-or x y = omega (arith, or-step x y)
 low-xor : (x y : ℕ) → bitXor x y % 2 + min (x % 2) (y % 2) * 2 ≡ x % 2 + y % 2
 low-xor x y = omega (arith, xor-step x y, differ-sum (x % 2) (y % 2))
 
-pub bit-and : (a b m : ℕ) → bit (bitAnd a b) m ≡ min (bit a m) (bit b m)
+bit-and : (a b m : ℕ) → bit (bitAnd a b) m ≡ min (bit a m) (bit b m)
 bit-and a b m = ap (λ (x : ℕ). x % 2) (and-shr a b m) ∙ low-and (a / 2 ^ m) (b / 2 ^ m)
 
 pub bit-or : (a b m : ℕ) → bit (bitOr a b) m ≡ max (bit a m) (bit b m)
 bit-or a b m = ap (λ (x : ℕ). x % 2) (or-shr a b m) ∙ low-or (a / 2 ^ m) (b / 2 ^ m)
 
-pub bit-xor : (a b m : ℕ) → bit (bitXor a b) m + min (bit a m) (bit b m) * 2 ≡ bit a m + bit b m
+bit-xor : (a b m : ℕ) → bit (bitXor a b) m + min (bit a m) (bit b m) * 2 ≡ bit a m + bit b m
 bit-xor a b m =
     ap (λ (x : ℕ). x % 2 + min (bit a m) (bit b m) * 2) (xor-shr a b m) ∙ low-xor (a / 2 ^ m) (b / 2 ^ m)
 
@@ -105,10 +105,10 @@ some-from (suc f) s h p = go (ℕ-discrete (s % 2) 1) (λ q. some-from f (s / 2)
     go (yes e) rec = (0, in-zero s .1 e)
     go (no e) rec = let (m, x) = rec (omega arith) in (suc m, in-suc s m .1 x)
 
-pub some-in : (s : ℕ) → 0 < s → (m : ℕ) × In m s
+some-in : (s : ℕ) → 0 < s → (m : ℕ) × In m s
 some-in s = some-from s s (omega arith)
 
-pub in-pos : (m s : ℕ) → In m s → 0 < s
+in-pos : (m s : ℕ) → In m s → 0 < s
 in-pos m zero h = absurd (in-none m h)
 in-pos m (suc s) h = omega arith
 

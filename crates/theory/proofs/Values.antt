@@ -50,7 +50,7 @@ module _ (T : Table) (ok : Accepted T) where
             ok .each u a .lasts,
           )
 
-      pub source-pair : (n : ℕ) → l ≡ suc (k + n) → ValuePair T (suc n) c i j (mode r k) (mode r l)
+      source-pair : (n : ℕ) → l ≡ suc (k + n) → ValuePair T (suc n) c i j (mode r k) (mode r l)
       source-pair n e =
           record {
             reach = run-reach T r run k (s .runs .cycle);
@@ -140,7 +140,7 @@ module _ (T : Table) (ok : Accepted T) where
     values-iff = (values-near, values-right)
 
     -- the same at every distance: further cycles ask nothing more
-    pub values-everywhere : ValuesRightAt T (spaced q)
+    values-everywhere : ValuesRightAt T (spaced q)
         → (n c i j a b : ℕ) → 1 ≤ n → ValuePair T n c i j a b → endOf (op T i) ≤ op T j .start + n * q
     unfolding ValuesNear
     values-everywhere right n c i j a b low p = go (decLt (n * q) (T .len))

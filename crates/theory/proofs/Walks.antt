@@ -44,7 +44,7 @@ module _ (T : Table) where
 
   module _ (r : List ℕ) (k a b : ℕ) (e : Ends T r k a) (f : Turn T a b) where
     -- what stood at m stands there still
-    pub snoc-keeps : (m : ℕ) → m ≤ k → mode (r ++ (b ∷ [])) m ≡ mode r m
+    snoc-keeps : (m : ℕ) → m ≤ k → mode (r ++ (b ∷ [])) m ≡ mode r m
     snoc-keeps m h = List·getD-append r (b ∷ []) 0 m (omega (arith, e .size))
 
     snoc-last : mode (r ++ (b ∷ [])) (suc k) ≡ b
@@ -59,7 +59,7 @@ module _ (T : Table) where
         go (Cmp.more x) = absurd (omega (arith, e .size, length-append r (b ∷ [])))
 
     -- one cycle more
-    pub snoc : Ends T (r ++ (b ∷ [])) (suc k) b
+    snoc : Ends T (r ++ (b ∷ [])) (suc k) b
     snoc =
         record {
           run =
@@ -73,18 +73,18 @@ module _ (T : Table) where
         }
 
   -- a reachable mode ends some run
-  pub reach-run : {a : ℕ} → Reach T a → (r : List ℕ) × (k : ℕ) × Ends T r k a
+  reach-run : {a : ℕ} → Reach T a → (r : List ℕ) × (k : ℕ) × Ends T r k a
   reach-run (begin {a = a} h) = (a ∷ [], 0, single h)
   reach-run (turn {a = a} {b = b} x f) = let (r, k, e) = reach-run x in (r ++ (b ∷ []), suc k, snoc r k a b e f)
 
   -- the run s goes on from the run r, which ends at cycle k, by n turns to the mode b, through modes that satisfy P
-  pub record Further (P : ℕ → Type 0) (r : List ℕ) (k n b : ℕ) (s : List ℕ) : Type 0 where
-    pub ends : Ends T s (k + n) b
-    pub keeps : (m : ℕ) → m ≤ k → mode s m ≡ mode r m
-    pub via : (m : ℕ) → k < m → m < k + n → P (mode s m)
+  record Further (P : ℕ → Type 0) (r : List ℕ) (k n b : ℕ) (s : List ℕ) : Type 0 where
+    ends : Ends T s (k + n) b
+    keeps : (m : ℕ) → m ≤ k → mode s m ≡ mode r m
+    via : (m : ℕ) → k < m → m < k + n → P (mode s m)
 
   -- a walk from the last mode of a run prolongs the run
-  pub walk-run : {P : ℕ → Type 0} {n a b : ℕ} → Walk T P n a b → (r : List ℕ) (k : ℕ) → Ends T r k a
+  walk-run : {P : ℕ → Type 0} {n a b : ℕ} → Walk T P n a b → (r : List ℕ) (k : ℕ) → Ends T r k a
       → (s : List ℕ) × Further P r k n b s
   walk-run (last {a = a} {b = b} f) r k e = (
     r ++ (b ∷ []),
