@@ -124,12 +124,15 @@ module _ (T : Table) (ok : Accepted T) where
   unfolding rightb
   says-right q low = says-right-at T (reachSet T) in-reach q low ok
 
+  -- the smallest right one up to the length is the period
+  least-period : (q : ℕ) → Least (λ q. Right T q) (T .len) q → IsPeriod T q
+  least-period q x = record { low = x .low; high = x .high; right = x .holds; least = x .none }
+
   -- every accepted table has a period, and the search finds it
   pub period-found : IsPeriod T (periodOf T)
   unfolding periodOf
   period-found =
-      let x = least-of (λ q. Right T q) (rightb T) says-right (T .len) (ok .len-low) (length-right T ok) in
-      record { low = x .low; high = x .high; right = x .holds; least = x .none }
+      least-period (periodOf T) (least-of (λ q. Right T q) (rightb T) says-right (T .len) (ok .len-low) (length-right T ok))
 
   -- values are right exactly from a bound up
   pub values-bound : (bound : ℕ) × ((q : ℕ) → 1 ≤ q → ValuesRightAt T (spaced q) ↔ bound ≤ q)

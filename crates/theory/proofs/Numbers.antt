@@ -1,4 +1,5 @@
--- A table handed over as numbers is judged as if first written in the layout and then read; an accepted table is read back as it was written.
+-- A table handed over as numbers is judged as if first written in the layout and then read, also where numbers are missing; what is refused of
+-- numbers, and where; an accepted table is read back as it was written.
 -- Assumes nothing.
 use Prim.Native.Nat.{ℕ, zero, suc, _+_, _-_, _*_, _^_, _<_, _≤_}
 use mathlib.Core.Path.{_≡_, refl, sym, ap, subst, _∙_}
@@ -258,7 +259,7 @@ module _ (N : Numbers) (fits : NumbersFit N) where
       (λ _ _. third-field (ℕ-discrete (length (N .follow)) (N .modes))))
 
   -- "judged as if first written in this layout and then read"
-  pub as-written : judgeNumbers N ≡ judge bytes
+  pub as-written : judgeNumbers N ≡ judge (numbersBytes N)
   unfolding judgeNumbers judge
   as-written =
       sym
