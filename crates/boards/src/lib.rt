@@ -2,20 +2,13 @@
 ghost use mathlib.Core.Path.{_≡_};
 ghost use Prim.Native.Nat.{_+_, _<_, _≤_};
 ghost use Rattle.rules.specs.Sets.{shares};
-ghost use Rattle.rules.specs.Table.{op, heldTo};
+ghost use Rattle.rules.specs.Table.{op};
 ghost use Rattle.theory.specs.Tests.{all, step, modesOf, boardsFine};
 ghost use Rattle.table.specs.Tables.{opOf, tableOf, Good};
 ghost use Rattle.turns.specs.Turns.{singles, rowAfter, blockFrom};
 ghost use Rattle.boards.specs.Boards.{laps, shiftFine, distanceFine};
 use table::Op;
 use table::Table;
-
-// The tick from which an operation no longer holds its boards.
-fn held_to(o: Op) -> u64
-    ensures { λ r. ⌜ r ≡ heldTo (opOf o) ⌝ }
-{
-    o.start as u64 + o.dur as u64
-}
 
 // Operation u, shifted by so many ticks, wants a board while o holds it.
 fn lap(o: Op, u: Op, shift: u32) -> bool
@@ -24,10 +17,10 @@ fn lap(o: Op, u: Op, shift: u32) -> bool
     if !sets::meets(o.boards, u.boards) {
         return false;
     }
-    if held_to(u) + shift as u64 <= o.start as u64 {
+    if table::held_to(u) + shift as u64 <= o.start as u64 {
         return false;
     }
-    u.start as u64 + (shift as u64) < held_to(o)
+    u.start as u64 + (shift as u64) < table::held_to(o)
 }
 
 // The modes of all the operations that want a board of operation i when they are shifted.

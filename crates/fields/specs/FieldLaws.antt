@@ -1,18 +1,21 @@
--- When each test of a field refuses and when it passes, and what the rows of tests come to.
+-- When each test of a field refuses and when it passes, what the rows of tests come to, and repeated fields one after the other.
 -- Assumes nothing.
-use Prim.Native.Nat.{ℕ, _+_, _<_, _≤_}
-use mathlib.Core.Path.{_≡_, sym, ap, _∙_}
+use Prim.Native.Nat.{ℕ, zero, suc, _+_, _-_, _<_, _≤_}
+use mathlib.Core.Path.{_≡_, refl, sym, ap, _∙_}
 use mathlib.Core.Bool.{Bool, true, false, not}
-use mathlib.Core.List.{List}
+use mathlib.Core.List.{List, []}
 use native.Mathlib.Omega.{arith}
 use lib.Dec.{eqb}
 use lib.ListN.{length}
 use borrow.Author.Tests.{le-leb, lt-leb, lt-ltb, le-ltb, eq-eqb, ne-eqb, ltb-false, eqb-false}
-use Rattle.rules.specs.Verdicts.{accepted, refused, SHORT, ORDER, SIZE, RANGE, MANY, _then_}
+use Rattle.rules.specs.Verdicts.{Verdict, accepted, refused, SHORT, ORDER, SIZE, RANGE, MANY, Test, _then_, onwards, more}
 use Rattle.rules.specs.Bytes.{num8, num16}
-use Rattle.rules.specs.Judge.{needed, header, due, notMany, sized, complete, ranged, fieldTest, repeatTest}
+use Rattle.rules.specs.Judge.{needed, header, due, notMany, sized, complete, ranged, fieldTest, repeatTest, fieldsFrom}
 use Rattle.theory.proofs.Verdicts.{passes, refuses, passed, then-accepts, then-refuses, then-first, then-rest, then-assoc}
-use Rattle.theory.proofs.Judging.{field-row, repeat-row}
+use Rattle.theory.proofs.Judging.{field-row, repeat-row, fields-end, fields-next}
+use Rattle.fields.specs.declared.Refusal.{Refusal}
+use Rattle.fields.specs.Verdicts.{refusalOf}
+use Rattle.fields.specs.RefusalLaws.{then-refusal}
 use Rattle.fields.specs.Fields.{sizedOf, fieldOf, repeatOf}
 
 -- a fault that is not there, and one that is
@@ -31,43 +34,43 @@ module _ (s : List ℕ) (at : ℕ) where
   unfolding needed
   needed-yes h = passes _ ORDER at 0 (lt-leb (length s) at h)
 
-  pub header-no : length s < at + 3 → header s at ≡ refused SHORT at 0
+  header-no : length s < at + 3 → header s at ≡ refused SHORT at 0
   unfolding header
   header-no h = refuses _ SHORT at 0 (lt-ltb (length s) (at + 3) h)
 
-  pub header-yes : at + 3 ≤ length s → header s at ≡ accepted tt
+  header-yes : at + 3 ≤ length s → header s at ≡ accepted tt
   unfolding header
   header-yes h = passes _ SHORT at 0 (le-ltb (length s) (at + 3) h)
 
-  pub due-no : (tag : ℕ) → (num8 s at ≡ tag → ⊥) → due s at tag ≡ refused ORDER at 0
+  due-no : (tag : ℕ) → (num8 s at ≡ tag → ⊥) → due s at tag ≡ refused ORDER at 0
   unfolding due
   due-no tag h = refuses _ ORDER at 0 (unequal (num8 s at) tag h)
 
-  pub due-yes : (tag : ℕ) → num8 s at ≡ tag → due s at tag ≡ accepted tt
+  due-yes : (tag : ℕ) → num8 s at ≡ tag → due s at tag ≡ accepted tt
   unfolding due
   due-yes tag h = passes _ ORDER at 0 (equal (num8 s at) tag h)
 
-  pub many-no : (left : ℕ) → left ≡ 0 → notMany at left ≡ refused MANY at 0
+  many-no : (left : ℕ) → left ≡ 0 → notMany at left ≡ refused MANY at 0
   unfolding notMany
   many-no left h = refuses _ MANY at 0 (eq-eqb left 0 h)
 
-  pub many-yes : (left : ℕ) → (left ≡ 0 → ⊥) → notMany at left ≡ accepted tt
+  many-yes : (left : ℕ) → (left ≡ 0 → ⊥) → notMany at left ≡ accepted tt
   unfolding notMany
   many-yes left h = passes _ MANY at 0 (ne-eqb left 0 h)
 
-  pub sized-no : (size : ℕ) → (num16 s (at + 1) ≡ size → ⊥) → sized s at size ≡ refused SIZE at 0
+  sized-no : (size : ℕ) → (num16 s (at + 1) ≡ size → ⊥) → sized s at size ≡ refused SIZE at 0
   unfolding sized
   sized-no size h = refuses _ SIZE at 0 (unequal (num16 s (at + 1)) size h)
 
-  pub sized-yes : (size : ℕ) → num16 s (at + 1) ≡ size → sized s at size ≡ accepted tt
+  sized-yes : (size : ℕ) → num16 s (at + 1) ≡ size → sized s at size ≡ accepted tt
   unfolding sized
   sized-yes size h = passes _ SIZE at 0 (equal (num16 s (at + 1)) size h)
 
-  pub complete-no : (size : ℕ) → length s < at + 3 + size → complete s at size ≡ refused SHORT at 0
+  complete-no : (size : ℕ) → length s < at + 3 + size → complete s at size ≡ refused SHORT at 0
   unfolding complete
   complete-no size h = refuses _ SHORT at 0 (lt-ltb (length s) (at + 3 + size) h)
 
-  pub complete-yes : (size : ℕ) → at + 3 + size ≤ length s → complete s at size ≡ accepted tt
+  complete-yes : (size : ℕ) → at + 3 + size ≤ length s → complete s at size ≡ accepted tt
   unfolding complete
   complete-yes size h = passes _ SHORT at 0 (le-ltb (length s) (at + 3 + size) h)
 
@@ -156,3 +159,55 @@ module _ (s : List ℕ) (at tag size : ℕ) where
         sized-passed s at size (then-rest (notMany at left) _ rest),
         eqb-false left 0 (passed _ MANY at 0 (then-first (notMany at left) _ rest .1)),
       )
+
+-- ---- the tests before the ranges, and the ranges
+
+module _ (s : List ℕ) (at tag size : ℕ) (ok : Bool) where
+  -- a field is refused where its tests before the ranges refuse
+  pub field-bad : (r : Refusal) → refusalOf r ≡ fieldOf s at tag size → refusalOf r ≡ fieldTest s at tag size ok
+  field-bad r e = sym (field-split s at tag size ok ∙ then-refusal r _ (sym e))
+
+  -- and where they pass, the ranges decide
+  pub field-ranged : (b : Bool) → accepted tt ≡ fieldOf s at tag size → b ≡ ok → ranged b at ≡ fieldTest s at tag size ok
+  field-ranged b e h = ap (λ (x : Bool). ranged x at) h ∙ sym (field-split s at tag size ok ∙ then-accepts _ (sym e))
+
+  -- likewise a field that may be repeated
+  pub repeat-bad : (left : ℕ) (r : Refusal) → refusalOf r ≡ repeatOf s at left tag size → refusalOf r ≡ repeatTest s at left tag size ok
+  repeat-bad left r e = sym (repeat-split s at tag size ok left ∙ then-refusal r _ (sym e))
+
+  pub repeat-ranged : (left : ℕ) (b : Bool) → accepted tt ≡ repeatOf s at left tag size → b ≡ ok → ranged b at ≡ repeatTest s at left tag size ok
+  repeat-ranged left b e h = ap (λ (x : Bool). ranged x at) h ∙ sym (repeat-split s at tag size ok left ∙ then-accepts _ (sym e))
+
+-- ---- repeated fields, one after the other
+
+-- a test, and what follows where it passes
+test-onwards : {A B : Type 0} (v : Test) (w : Verdict B) (x : A) (f : A → Verdict B) → (v ≡ accepted tt → w ≡ f x)
+    → (v then w) ≡ onwards (v then accepted x) f
+unfolding _then_ onwards
+test-onwards (accepted y) w x f e = e refl
+test-onwards (refused n a b) w x f e = refl
+
+module _ (tag size : ℕ) {A : Type 0} (ok : A → Bool) (value : List ℕ → ℕ → A) (s : List ℕ) where
+  -- a repeated field that passes is whole, and was allowed to come
+  pub repeat-whole : (left at : ℕ) → repeatTest s at left tag size (ok (value s at)) ≡ accepted tt → (at + 3 + size ≤ length s) × (left ≡ 0 → ⊥)
+  repeat-whole left at e =
+      repeat-passed s at tag size left
+      (then-first (repeatOf s at left tag size) _ (sym (repeat-split s at tag size (ok (value s at)) left) ∙ e) .1)
+
+  -- the field at a place inside the input, and those behind it
+  pub from-next : (left at : ℕ) → at < length s
+      → fieldsFrom tag size ok value s left at
+      ≡ onwards (repeatTest s at left tag size (ok (value s at)) then accepted (value s at))
+      (λ x. more x (fieldsFrom tag size ok value s (left - 1) (at + (3 + size))))
+  from-next zero at h =
+      fields-end tag size ok value s at
+      ∙ rw (lt-leb (length s) at h)
+      (test-onwards (repeatTest s at 0 tag size (ok (value s at))) (accepted []) (value s at) _ (λ e. absurd (repeat-whole 0 at e .1 refl)))
+  from-next (suc left) at h =
+      let p : at + 3 + size ≡ at + (3 + size) = omega arith in
+      let l : suc left - 1 ≡ left = omega arith in
+      fields-next tag size ok value s left at
+      ∙ rw (lt-leb (length s) at h)
+      (test-onwards (repeatTest s at (suc left) tag size (ok (value s at))) _ (value s at)
+      (λ x. more x (fieldsFrom tag size ok value s (suc left - 1) (at + (3 + size))))
+      (λ e. rw (l, p)))

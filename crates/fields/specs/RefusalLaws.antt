@@ -1,12 +1,14 @@
 -- Laws of the code's refusals: they are the same whatever was to be accepted, and nothing that comes behind them counts.
 -- Assumes nothing.
 use Prim.Native.Nat.{ℕ}
-use mathlib.Core.Path.{_≡_, refl, sym, _∙_}
-use Rattle.rules.specs.Verdicts.{Verdict, accepted, refused, _then_, onwards}
+use mathlib.Core.Path.{_≡_, refl, sym, ap, _∙_}
+use Rattle.rules.specs.Verdicts.{Verdict, accepted, refused, Test, _then_, onwards}
 use Rattle.theory.proofs.Verdicts.{never-refused, then-refuses, onwards-refuses}
 use Rattle.fields.specs.declared.Refusal.{Refusal}
 use Rattle.fields.specs.declared.Refusal.the-variants.{Short, Order, Size, Range, Many, Clash, Race, Room, Ask}
-use Rattle.fields.specs.Verdicts.{refusalOf}
+use Rattle.fields.specs.declared.Verdict as code
+use Rattle.fields.specs.declared.Verdict.the-variants.{Accepted, Refused}
+use Rattle.fields.specs.Verdicts.{refusalOf, tested}
 
 -- a refusal is one whatever was to be accepted
 pub refusal-is : {A B : Type 0} (r : Refusal)
@@ -38,3 +40,11 @@ pub heard-refusal : {A : Type 0} (v : Verdict A) (r : Refusal) → refusalOf r �
 unfolding onwards
 heard-refusal {A} (accepted x) r e = let (n, a, b, y, z) = refusal-is {A = A} {B = Unit {0}} r in never-refused (sym z ∙ e)
 heard-refusal {A} (refused m c d) r e = sym (refusal-at r e)
+
+-- a test of the code that passes, and one that refuses
+module _ {v : code.Verdict} {w : Test} (e : tested v ≡ w) where
+  pub passed-as : v ≡ Accepted → accepted tt ≡ w
+  passed-as h = sym (ap tested h) ∙ e
+
+  pub refused-as : {r : Refusal} → v ≡ Refused r → refusalOf r ≡ w
+  refused-as h = sym (ap tested h) ∙ e

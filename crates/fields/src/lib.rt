@@ -2,8 +2,9 @@
 ghost use mathlib.Core.Path.{_≡_};
 ghost use Prim.Native.Nat.{ℕ, _+_, _<_, _≤_};
 ghost use lib.ListN.{length};
-ghost use Rattle.rules.specs.Bytes.{num16, num32};
+ghost use Rattle.rules.specs.Bytes.{num8, num16, num32};
 ghost use Rattle.rules.specs.Verdicts.{refused};
+ghost use Rattle.rules.specs.Judge.{ranged};
 ghost use Rattle.fields.specs.Verdicts.{refusalOf, figuresOf, tested};
 ghost use Rattle.fields.specs.Fields.{sizedOf, fieldOf, repeatOf};
 
@@ -65,10 +66,12 @@ pub fn figures_of(r: Refusal) -> Figures
     }
 }
 
-fn wide(b: u8) -> u32
-    ensures { λ r. ⌜ (r ≡ b) × (r < 256) ⌝ }
+// The number in one byte.
+pub fn byte(s: &[u8], at: usize) -> u32
+    requires { ⌜ at < length (now s) ⌝ }
+    ensures { λ r. ⌜ (r ≡ num8 (now (s .entry)) at) × (r < 256) ⌝ }
 {
-    b as u32
+    s[at] as u32
 }
 
 // The number in two bytes, most significant first.
@@ -76,7 +79,7 @@ pub fn be16(s: &[u8], at: usize) -> u32
     requires { ⌜ at + 1 < length (now s) ⌝ }
     ensures { λ r. ⌜ (r ≡ num16 (now (s .entry)) at) × (r < 65536) ⌝ }
 {
-    wide(s[at]) * 256 + wide(s[at + 1])
+    byte(s, at) * 256 + byte(s, at + 1)
 }
 
 // The number in four bytes, most significant first.
@@ -134,4 +137,14 @@ pub fn repeat_test(s: &[u8], at: usize, left: usize, tag: u8, size: usize) -> Ve
         return Verdict::Refused(Refusal::Many(at));
     }
     sized_test(s, at, size)
+}
+
+// The answer of a range test.
+pub fn range_test(ok: bool, at: usize) -> Verdict
+    ensures { λ r. ⌜ tested r ≡ ranged ok at ⌝ }
+{
+    if ok {
+        return Verdict::Accepted;
+    }
+    Verdict::Refused(Refusal::Range(at))
 }

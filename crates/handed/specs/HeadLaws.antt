@@ -22,7 +22,8 @@ use Rattle.fields.specs.FieldLaws.{ranged-no}
 use Rattle.fields.specs.Verdicts.{refusalOf}
 use Rattle.fields.specs.declared.Refusal.{Refusal}
 use Rattle.fields.specs.RefusalLaws.{then-refusal}
-use Rattle.handed.specs.Handed.{handedOps, numbersVerdict, SmallCounts, Small}
+use Rattle.handed_ops.specs.HandedOps.{handedOps, SmallCounts}
+use Rattle.handed.specs.Handed.{numbersVerdict, Small}
 
 -- ---- what stands before the operations
 

@@ -33,7 +33,7 @@ fn measure(o: Op, u: Op, n: u32, q: u32) -> i32
     ensures { λ r. ⌜ r ≡ gap n q o u ⌝ }
 {
     let later = n * q + u.start;
-    let end = o.start + o.dur;
+    let end = table::end_of(o);
     (later as i32) - (end as i32)
 }
 

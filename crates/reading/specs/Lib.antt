@@ -1,4 +1,3 @@
 pub mod Reading
-pub mod WordLaws
 pub mod ReadingLaws
-pub mod Callers
+pub mod FieldsLaws

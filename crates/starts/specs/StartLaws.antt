@@ -19,8 +19,8 @@ use Rattle.fields.specs.declared.Refusal.{Refusal}
 use Rattle.fields.specs.Verdicts.{refusalOf, leaving}
 use Rattle.fields.specs.RefusalLaws.{refusal-is, then-refusal, onwards-refusal, heard-refusal}
 use Rattle.fields.specs.FieldLaws.{needed-no, needed-yes}
-use Rattle.reading.specs.Reading.{lenTest}
-use Rattle.reading.specs.ReadingLaws.{repeat-whole, from-next}
+use Rattle.heads.specs.Heads.{lenTest}
+use Rattle.fields.specs.FieldLaws.{repeat-whole, from-next}
 use Rattle.puts.specs.Puts.{stored}
 use Rattle.puts.specs.PutLaws.{stored-turn, stored-front}
 use Rattle.starts.specs.Starts.{heard, Unfolds, StartsStored}

@@ -42,7 +42,7 @@ fn row_test(s: &[u8], at: usize, left: usize, q: Ticks) -> Verdict
         Verdict::Refused(r) => Verdict::Refused(r),
         Verdict::Accepted => {
             let row = row_at(s, at);
-            reading::range_test(rows::row_ok(q, row), at)
+            fields::range_test(rows::row_ok(q, row), at)
         }
     }
 }
@@ -76,7 +76,7 @@ fn period_of(s: &[u8]) -> Ticks
 pub fn judge(s: &[u8]) -> Verdict
     ensures { λ r. ⌜ tested r ≡ heard (judgeReply (now (s .entry))) ⌝ }
 {
-    let v = reading::len_test(s, 17);
+    let v = heads::len_test(s, 17);
     if let Verdict::Refused(r) = v {
         return Verdict::Refused(r);
     }

@@ -5,9 +5,10 @@ use lib.ListN.{length}
 use Rattle.rules.specs.Table.{Table, Accepted}
 use Rattle.rules.specs.Verdicts.{Verdict, accepted, refused, onwards}
 use Rattle.theory.proofs.Verdicts.{never-refused}
-use Rattle.fields.specs.Verdicts.{refusalOf, tested}
+use Rattle.fields.specs.Verdicts.{refusalOf, verdictOn, tested}
 use Rattle.fields.specs.RefusalLaws.{refusal-is, heard-refusal}
 use Rattle.fields.specs.declared.Refusal.{Refusal}
+use Rattle.fields.specs.declared.Verdict as heard
 use Rattle.fields.specs.declared.Verdict.the-variants.{Refused}
 use Rattle.fields.specs.declared.Verdict.the-variants as said
 use Rattle.table.specs.Tables.{JudgedAs, tableOf, tableIn, noTable, Good}
@@ -46,6 +47,22 @@ judged-accepted (refused n a b) r j e = never-refused (sym (j .said) ∙ ap test
 
 pub judged-refused : (v : Verdict Table) (r : Judged) (q : Refusal) → JudgedAs v r → r .verdict ≡ Refused q → v ≡ refusalOf q
 judged-refused v r q j e = heard-refusal v q (sym (ap tested e) ∙ j .said)
+
+-- where an accepted table has as many words as modes, the code's verdict and table tell the verdict, and the table is zero where nothing counts
+module _ {v : Verdict Table} {r : Judged} (j : JudgedAs v r) (words : (T : Table) → v ≡ accepted T → length (T .follow) ≡ T .modes) where
+  pub judged-on : verdictOn (r .verdict) (tableOf (r .table)) ≡ v
+  judged-on = go (r .verdict) refl
+    where
+      go : (w : heard.Verdict) → r .verdict ≡ w → verdictOn w (tableOf (r .table)) ≡ v
+      go said.Accepted e =
+          let took = judged-accepted v r j e in
+          ap accepted (took-back took (words (took .table) (took .said))) ∙ sym (took .said)
+      go (Refused q) e = sym (judged-refused v r q j e)
+
+  pub judged-tidy : r .verdict ≡ said.Accepted → r .table ≡ tableIn (tableOf (r .table))
+  judged-tidy e =
+      let took = judged-accepted v r j e in
+      took .held ∙ ap (λ (T : Table). tableIn T) (sym (took-back took (words (took .table) (took .said))))
 
 -- an accepted table is one that the engine takes
 module _ {v : Verdict Table} {t : code.Table} (took : Took v t) (ok : Accepted (took .table)) where

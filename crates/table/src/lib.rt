@@ -1,9 +1,12 @@
-// A table as the code hands it around, by value, and the ranges of document 01.
+// A table as the code hands it around, by value, its dates and places, and the ranges of document 01.
 ghost use mathlib.Core.Path.{_≡_};
 ghost use Prim.Native.Nat.{_<_, _≤_};
 ghost use mathlib.Core.Bool.{true};
-ghost use Rattle.rules.specs.Judge.{lenOk, countsOk, opOk};
-ghost use Rattle.table.specs.Tables.{noTable, withOp, opOf, wideOf, counted};
+ghost use Rattle.rules.specs.Table.{endOf, heldTo};
+ghost use Rattle.rules.specs.Judge.{lenOk, countsOk, opOk, opsPlace};
+ghost use Rattle.fields.specs.Verdicts.{refusalOf};
+ghost use Rattle.table.specs.Tables.{noTable, withOp, opOf, wideOf, counted, JudgedAs};
+use fields::Refusal;
 use fields::Verdict;
 
 pub struct Op {
@@ -79,6 +82,40 @@ pub fn with_op(t: Table, o: Op) -> Table
     next.ops[at] = o;
     next.count = at + 1;
     next
+}
+
+// A refusal, with the empty table.
+pub fn deny(q: Refusal) -> Judged
+    ensures { λ r. ⌜ JudgedAs (refusalOf q) r ⌝ }
+{
+    Judged {
+        verdict: Verdict::Refused(q),
+        table: empty(),
+    }
+}
+
+// ---- dates and places
+
+// The tick at which an operation's writes come, and from which it no longer uses its cells.
+pub fn end_of(o: Op) -> u64
+    ensures { λ r. ⌜ r ≡ endOf (opOf o) ⌝ }
+{
+    o.start as u64 + o.dur as u64
+}
+
+// The tick from which an operation no longer holds its boards.
+pub fn held_to(o: Op) -> u64
+    ensures { λ r. ⌜ r ≡ heldTo (opOf o) ⌝ }
+{
+    let held = o.dur as u64;
+    o.start as u64 + held
+}
+
+// Where the operations begin in a table's bytes.
+pub fn ops_place(modes: u32) -> usize
+    ensures { λ r. ⌜ r ≡ opsPlace modes ⌝ }
+{
+    18 + 4 * (modes as usize)
 }
 
 // ---- ranges

@@ -3,7 +3,7 @@ ghost use mathlib.Core.Path.{_≡_};
 ghost use mathlib.Core.Bool.{true, cond};
 ghost use Prim.Native.Nat.{_<_, _≤_};
 ghost use Rattle.rules.specs.Sets.{shares};
-ghost use Rattle.rules.specs.Table.{nops, endOf};
+ghost use Rattle.rules.specs.Table.{nops};
 ghost use Rattle.theory.specs.Tests.{modesOf, writers};
 ghost use Rattle.table.specs.Tables.{opOf, tableOf, Good};
 ghost use Rattle.values.specs.Bounds.{IsBound, Raised, Each, writesWithin, freshRead, freshSets, InTime, ReaderFine, TurnsFine, WriterFine, CellFine};
@@ -12,27 +12,19 @@ use table::Table;
 
 // ---- the modes in which a cell is written
 
-// The tick at which an operation's writes come.
-fn end_of(o: Op) -> u32
-    requires { ⌜ endOf (opOf o) ≤ 1000 ⌝ }
-    ensures { λ r. ⌜ r ≡ endOf (opOf o) ⌝ }
-{
-    o.start + o.dur
-}
-
 // The modes of an operation that writes c and ends after one date and by another.
 fn modes_within(o: Op, c: u32, after: u32, by: u32) -> u32
-    requires { ⌜ (c < 32) × (endOf (opOf o) ≤ 1000) ⌝ }
+    requires { ⌜ c < 32 ⌝ }
     ensures { λ r. ⌜ r ≡ cond (writesWithin c after by (opOf o)) (o .modes) 0 ⌝ }
 {
     if !sets::member(o.writes, c) {
         return 0;
     }
-    let end = end_of(o);
-    if end <= after {
+    let end = table::end_of(o);
+    if end <= after as u64 {
         return 0;
     }
-    if by < end {
+    if (by as u64) < end {
         return 0;
     }
     o.modes
@@ -156,7 +148,7 @@ fn ask_writer(
     if !sets::member(o.writes, c) {
         return bound;
     }
-    let end = end_of(o);
+    let end = table::end_of(o) as u32;
     let last = sets::without(o.modes, written_within(t, c, end, t.len));
     ask_turns(t, fresh, written, reached & last, end, bound)
 }

@@ -1,9 +1,11 @@
 -- Each return is one outcome of the row of tests.
 -- Assumes nothing.
-use mathlib.Core.Path.{sym, _∙_}
+use Prim.Native.Nat.{ℕ}
+use mathlib.Core.Path.{sym, ap, _∙_}
 use native.Mathlib.Omega.{arith}
 use borrow.Author.Needs.{needs}
 use borrow.Author.Tests.{not-true, not-false}
+use Rattle.rules.specs.Verdicts.{refused, ORDER}
 use Rattle.handed.specs.HeadLaws.{test-len, test-counts, test-size, test-sets, test-none, test-some, counts-small}
 use Rattle.handed.proofs.head_test.Statement.{statement}
 use Rattle.handed.proofs.head_test.Tie as tie
@@ -75,15 +77,19 @@ returns-5 c =
     let e = sym (c .before .words-ok .ensures) ∙ not-true _ (c .if5 .taken) in
     sym (test-sets _ e1 e2 (x3 .if3 .left) (rw (e4, e)))
 
-mul-t19 : tie.Need-mul-t19
-mul-t19 c = search needs
+cast-ops-place : tie.Need-cast-ops-place
+cast-ops-place c =
+    let x2 = c .before .before .before .before .before .before in
+    let small = counts-small _ _ _ (sym (x2 .before .counts-ok .ensures) ∙ not-false _ (x2 .if2 .left)) in
+    omega arith
 
-add-t20 : tie.Need-add-t20
-add-t20 c = search needs
+ops-place-requires : tie.Need-ops-place-requires
+ops-place-requires c κs = search needs
 
 returns-6 : tie.Need-returns-6
 returns-6 c =
-    let x5 = c .before in
+    let n = c .before in
+    let x5 = n .before in
     let x4 = x5 .before .before in
     let x3 = x4 .before .before in
     let x2 = x3 .before in
@@ -92,7 +98,8 @@ returns-6 c =
     let e2 = sym (x2 .before .counts-ok .ensures) ∙ not-false _ (x2 .if2 .left) in
     let e4 = sym (x4 .before .is-set-of .ensures) ∙ not-false _ (x4 .if4 .left) in
     let e5 = sym (x5 .before .words-ok .ensures) ∙ not-false _ (x5 .if5 .left) in
-    sym (test-none _ e1 e2 (x3 .if3 .left) (rw (e4, e5)) (c .if6 .taken))
+    ap (λ (m : ℕ). refused ORDER m 0) (c .ops-place .ensures)
+    ∙ sym (test-none _ e1 e2 (x3 .if3 .left) (rw (e4, e5)) (n .if6 .taken))
 
 returns-7 : tie.Need-returns-7
 returns-7 c =
@@ -122,7 +129,7 @@ head-test-spec =
     cast-words-ok
     words-ok-requires
     returns-5
-    mul-t19
-    add-t20
+    cast-ops-place
+    ops-place-requires
     returns-6
     returns-7)

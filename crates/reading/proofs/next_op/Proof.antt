@@ -6,7 +6,8 @@ use borrow.Author.Tests.{not-true, not-false}
 use Rattle.rules.specs.Verdicts.{accepted}
 use Rattle.fields.specs.FieldLaws.{repeat-passed}
 use Rattle.table.specs.Tables.{tableOf}
-use Rattle.reading.specs.ReadingLaws.{passed-as, refused-as, op-judged, op-bad, op-range, op-fine}
+use Rattle.fields.specs.RefusalLaws.{passed-as, refused-as}
+use Rattle.reading.specs.ReadingLaws.{op-judged, op-bad, op-range, op-fine}
 use borrow.Author.Needs.{needs}
 use Rattle.reading.proofs.next_op.Statement.{statement}
 use Rattle.reading.proofs.next_op.Tie as tie

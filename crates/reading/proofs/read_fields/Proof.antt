@@ -1,10 +1,10 @@
 -- A head that is refused decides; behind one that passes, the operations do.
 -- Assumes nothing.
+use denote.Ref.{now}
 use mathlib.Core.Path.{sym}
 use Rattle.theory.proofs.Verdicts.{then-accepts}
-use Rattle.reading.specs.Reading.{fieldsVerdict}
-use Rattle.fields.specs.RefusalLaws.{then-refusal}
-use Rattle.reading.specs.ReadingLaws.{passed-as, refused-as, denied-as}
+use Rattle.reading.specs.Reading.{opsVerdict, fieldsVerdict}
+use Rattle.fields.specs.RefusalLaws.{then-refusal, passed-as, refused-as}
 use borrow.Author.Needs.{needs}
 use Rattle.reading.proofs.read_fields.Statement.{statement}
 use Rattle.reading.proofs.read_fields.Tie as tie
@@ -15,8 +15,8 @@ head-test-requires c κs = search needs
 enum-known-v : tie.Need-enum-known-v
 enum-known-v c = search needs
 
-empty-requires : tie.Need-empty-requires
-empty-requires c κs = search needs
+deny-requires : tie.Need-deny-requires
+deny-requires c κs = search needs
 
 enum-told : tie.Need-enum-told
 enum-told c = search needs
@@ -29,7 +29,7 @@ unfolding fieldsVerdict
 returns c =
     let v = c .before .before in
     let h = v .before .before in
-    denied-as (v .v .given .0 .0) _ (c .empty .ensures) (sym (then-refusal (v .v .given .0 .0) _ (sym (refused-as (h .head-test .ensures) (v .v .given .1)))))
+    rw (then-refusal (v .v .given .0 .0) (opsVerdict (now (h .before .before .args .s))) (sym (refused-as (h .head-test .ensures) (v .v .given .1)))) (c .deny .ensures)
 
 returns-2 : tie.Need-returns-2
 unfolding fieldsVerdict
@@ -44,7 +44,7 @@ read-fields-spec =
     (tie.spec
     head-test-requires
     enum-known-v
-    empty-requires
+    deny-requires
     enum-told
     read-ops-requires
     returns

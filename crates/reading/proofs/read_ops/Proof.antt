@@ -7,7 +7,8 @@ use native.Mathlib.Omega.{arith}
 use lib.ListN.{length}
 use borrow.Author.Needs.{needs}
 use Rattle.reading.specs.Reading.{nextOf}
-use Rattle.reading.specs.ReadingLaws.{SoFar, head-fits, head-modes, so-none, so-fits, so-bad, so-more, so-end}
+use Rattle.heads.specs.HeadLaws.{head-fits}
+use Rattle.reading.specs.ReadingLaws.{SoFar, so-none, so-fits, so-bad, so-more, so-end}
 use Rattle.reading.proofs.read_ops.Statement.{statement}
 use Rattle.reading.proofs.read_ops.Tie as tie
 
@@ -17,22 +18,15 @@ Inv-loop s t₀ at₀ t at = SoFar s t at
 abbrev μ-loop : tie.MeasureT-loop
 μ-loop s t₀ at₀ t at = length s - at
 
--- src/lib.rt:216:9
 read-head-requires : tie.Need-read-head-requires Inv-loop μ-loop
 read-head-requires c κs = c .before .pre
 
--- src/lib.rt:217:9
 ops-place-requires : tie.Need-ops-place-requires Inv-loop μ-loop
-ops-place-requires c κs =
-    let a = c .before .before in
-    let fits = head-fits (now (a .args .s)) (a .pre) in
-    omega (arith, head-modes (now (a .args .s)) _ (c .read-head .ensures))
+ops-place-requires c κs = search needs
 
--- src/lib.rt:218:5
 loop-holds : tie.Need-loop-holds Inv-loop μ-loop
 loop-holds c = rw (c .ops-place .ensures) (so-none _ _ (c .before .read-head .ensures))
 
--- src/lib.rt:219:13
 next-op-requires : tie.Need-next-op-requires Inv-loop μ-loop
 next-op-requires c κs =
     let i = c .before in
@@ -40,27 +34,21 @@ next-op-requires c κs =
     let fits = so-fits (i .loop .inv) (head-fits (now (a .args .s)) (a .pre)) in
     (c .loop-test .taken, fits .0, fits .1, fits .2, fits .3)
 
--- src/lib.rt:221:23
 enum-known-next : tie.Need-enum-known-next Inv-loop μ-loop
 enum-known-next c = search needs
 
--- src/lib.rt:222:21
-empty-requires : tie.Need-empty-requires Inv-loop μ-loop
-empty-requires c κs = search needs
+deny-requires : tie.Need-deny-requires Inv-loop μ-loop
+deny-requires c κs = search needs
 
--- src/lib.rt:223:17
 returns : tie.Need-returns Inv-loop μ-loop
 returns c =
     let n = c .before .before in
     let f = n .before .before in
-    so-bad (f .before .before .loop .inv) (n .next .given .0 .0) (c .empty .ensures) (f .before .loop-test .taken)
-    (ap nextOf (sym (n .next .given .1)) ∙ f .next-op .ensures)
+    rw (so-bad (f .before .before .loop .inv) (n .next .given .0 .0) (f .before .loop-test .taken) (ap nextOf (sym (n .next .given .1)) ∙ f .next-op .ensures)) (c .deny .ensures)
 
--- src/lib.rt:228:24
 enum-known-next-2 : tie.Need-enum-known-next-2 Inv-loop μ-loop
 enum-known-next-2 c = search needs
 
--- src/lib.rt:229:17
 with-op-requires : tie.Need-with-op-requires Inv-loop μ-loop
 with-op-requires c κs =
     let n = c .before in
@@ -69,7 +57,6 @@ with-op-requires c κs =
     let so = so-more (i .loop .inv) (n .next2 .given .0 .0) (f .before .loop-test .taken) (ap nextOf (sym (n .next2 .given .1)) ∙ f .next-op .ensures) in
     so .1
 
--- src/lib.rt:232:9
 add-at : tie.Need-add-at Inv-loop μ-loop
 add-at c =
     let n = c .before .before in
@@ -78,7 +65,6 @@ add-at c =
     let so = so-more (i .loop .inv) (n .next2 .given .0 .0) (f .before .loop-test .taken) (ap nextOf (sym (n .next2 .given .1)) ∙ f .next-op .ensures) in
     omega (arith, so .0, i .before .before .before .before .good .0 .0)
 
--- src/lib.rt:218:5
 loop-less : tie.Need-loop-less Inv-loop μ-loop
 loop-less c =
     let n = c .before .before in
@@ -87,7 +73,6 @@ loop-less c =
     let so = so-more (i .loop .inv) (n .next2 .given .0 .0) (f .before .loop-test .taken) (ap nextOf (sym (n .next2 .given .1)) ∙ f .next-op .ensures) in
     omega (arith, so .0)
 
--- src/lib.rt:218:5
 loop-again : tie.Need-loop-again Inv-loop μ-loop
 loop-again c =
     let n = c .before .before in
@@ -96,7 +81,6 @@ loop-again c =
     let so = so-more (i .loop .inv) (n .next2 .given .0 .0) (f .before .loop-test .taken) (ap nextOf (sym (n .next2 .given .1)) ∙ f .next-op .ensures) in
     rw (c .with-op .ensures) (so .2)
 
--- src/lib.rt:212:1
 returns-2 : tie.Need-returns-2 Inv-loop μ-loop
 returns-2 c = so-end (c .before .loop .inv) (omega arith)
 
@@ -111,7 +95,7 @@ read-ops-spec =
     loop-holds
     next-op-requires
     enum-known-next
-    empty-requires
+    deny-requires
     returns
     enum-known-next-2
     with-op-requires

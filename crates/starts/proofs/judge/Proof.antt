@@ -6,7 +6,7 @@ use denote.Ref.{now}
 use native.Mathlib.Omega.{arith}
 use lib.ListN.{length}
 use Rattle.rules.specs.Judge.{rowsFrom}
-use Rattle.reading.specs.ReadingLaws.{passed-as, refused-as}
+use Rattle.fields.specs.RefusalLaws.{passed-as, refused-as}
 use Rattle.starts.specs.Starts.{heard}
 use Rattle.starts.specs.StartLaws.{period-bad, rows-missing, rows-there}
 use borrow.Author.Needs.{needs}

@@ -4,7 +4,8 @@ use mathlib.Core.Path.{sym, ap, _∙_}
 use native.Mathlib.Omega.{arith}
 use Rattle.rules.specs.Judge.{rowOk}
 use Rattle.fields.specs.FieldLaws.{repeat-passed}
-use Rattle.reading.specs.ReadingLaws.{passed-as, refused-as, repeat-bad, repeat-ranged}
+use Rattle.fields.specs.RefusalLaws.{passed-as, refused-as}
+use Rattle.fields.specs.FieldLaws.{repeat-bad, repeat-ranged}
 use borrow.Author.Needs.{needs}
 use Rattle.starts.proofs.row_test.Statement.{statement}
 use Rattle.starts.proofs.row_test.Tie as tie

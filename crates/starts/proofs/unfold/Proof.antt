@@ -1,7 +1,7 @@
 -- A refusal of the reply is the answer; an accepted one is unfolded.
 -- Assumes nothing.
 use mathlib.Core.Path.{sym}
-use Rattle.reading.specs.ReadingLaws.{passed-as, refused-as}
+use Rattle.fields.specs.RefusalLaws.{passed-as, refused-as}
 use Rattle.starts.specs.StartLaws.{unfold-refused, unfold-accepted}
 use borrow.Author.Needs.{needs}
 use Rattle.starts.proofs.unfold.Statement.{statement}

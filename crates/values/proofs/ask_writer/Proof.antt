@@ -38,8 +38,11 @@ returns c =
     raised-not _ (λ q h w. clash-bool w e)
 
 end-of-requires : tie.Need-end-of-requires
-end-of-requires c κs =
-    let s = c .before .before .before in
+end-of-requires c κs = search needs
+
+cast-end : tie.Need-cast-end
+cast-end c =
+    let s = c .before .before .before .before in
     omega (arith, good-op (s .args .t1) (s .pre .0) (s .args .i) (s .pre .2) .fits, s .pre .0 .accepted .len-high)
 
 written-within-requires : tie.Need-written-within-requires
@@ -80,6 +83,7 @@ ask-writer-spec =
     member-requires
     returns
     end-of-requires
+    cast-end
     written-within-requires
     without-requires
     ask-turns-requires

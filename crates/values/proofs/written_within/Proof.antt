@@ -7,7 +7,7 @@ use lib.ListN.{take}
 use Rattle.theory.specs.Tests.{modesOf}
 use Rattle.table.specs.Tables.{tableOf}
 use Rattle.values.specs.Bounds.{writesWithin}
-use Rattle.table.specs.TableLaws.{good-few, good-op}
+use Rattle.table.specs.TableLaws.{good-few}
 use Rattle.values.specs.WriteLaws.{modes-at, modes-all}
 use Rattle.values.proofs.written_within.Statement.{statement}
 use Rattle.values.proofs.written_within.Tie as tie
@@ -30,10 +30,7 @@ element-copy-out-modes-within : tie.Need-element-copy-out-modes-within Inv-loop 
 element-copy-out-modes-within c = omega arith
 
 modes-within-requires : tie.Need-modes-within-requires Inv-loop μ-loop
-modes-within-requires c κs =
-    let i = c .before .before in
-    let s = i .before in
-    (s .pre .1, omega (arith, good-op (s .args .t1) (s .pre .0) (i .loop .k) (omega arith) .fits, s .pre .0 .accepted .len-high))
+modes-within-requires c κs = c .before .before .before .pre .1
 
 add-k : tie.Need-add-k Inv-loop μ-loop
 add-k c = omega arith

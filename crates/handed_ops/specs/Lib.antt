@@ -1,0 +1,2 @@
+pub mod HandedOps
+pub mod OpsLaws

@@ -1,0 +1,28 @@
+-- A refusal is handed on; of a table that the fields accept, the pairs decide.
+-- Assumes nothing.
+use borrow.Author.Needs.{needs}
+use Rattle.whole.specs.WholeLaws.{fields-refused, fields-accepted}
+use Rattle.whole.proofs.judge.Statement.{statement}
+use Rattle.whole.proofs.judge.Tie as tie
+
+enum-known-v : tie.Need-enum-known-v
+enum-known-v c = search needs
+
+deny-requires : tie.Need-deny-requires
+deny-requires c κs = search needs
+
+enum-told : tie.Need-enum-told
+enum-told c = search needs
+
+judge-pairs-requires : tie.Need-judge-pairs-requires
+judge-pairs-requires c κs = c .before .before .before .pre (c .before .enum-told .given .1)
+
+returns : tie.Need-returns
+returns c = let v = c .before .before in rw (fields-refused (v .before .before .args .j) (v .v .given .0 .0) (v .v .given .1)) (c .deny .ensures)
+
+returns-2 : tie.Need-returns-2
+returns-2 c = rw (fields-accepted (c .before .before .before .before .args .j) (c .before .before .enum-told .given .1)) (c .judge-pairs .ensures)
+
+pub judge-spec : {M : Type 1} → statement M
+judge-spec =
+    tie.close (tie.spec enum-known-v deny-requires enum-told judge-pairs-requires returns returns-2)
