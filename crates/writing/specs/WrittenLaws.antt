@@ -1,6 +1,6 @@
 -- Laws of what is written of numbers that are judged.
 -- Assumes nothing.
-use Prim.Native.Nat.{ℕ}
+use Prim.Native.Nat.{ℕ, _≤_}
 use mathlib.Core.Path.{_≡_, _∙_}
 use mathlib.Core.List.{List}
 use native.Mathlib.Omega.{arith}
@@ -10,26 +10,26 @@ use Rattle.rules.specs.Bytes.{tableBytes}
 use Rattle.rules.specs.Judge.{Numbers, judgeNumbers}
 use Rattle.rules.specs.Answers.{Written, IsWrite, written, bytesOf, put}
 use Rattle.theory.proofs.Judging.{numbers-accepted}
-use Rattle.fields.specs.Verdicts.{refusalOf}
+use Rattle.fields.specs.Verdicts.{refusalOf, leaving}
 use Rattle.fields.specs.declared.Refusal.{Refusal}
 use Rattle.table.specs.Tables.{tableOf}
 use Rattle.table.specs.declared.Table.{Table}
 use Rattle.fields.specs.RefusalLaws.{refusal-is}
 use Rattle.table.specs.JudgedLaws.{Took, took-back}
-use Rattle.writing.specs.Writing.{Writable}
+use Rattle.writing_head.specs.WritingHead.{Writable}
 
 module _ (N : Numbers) {t : Table} (took : Took (judgeNumbers N) t) where
   abbrev fine : rules.Accepted (took .table)
   fine = numbers-accepted N (took .table) (took .said)
 
-  pub took-writable : Writable t
-  took-writable = rw (took .held) (record { boards = omega (arith, fine .boards-high); cells = omega (arith, fine .cells-high); modes = fine .modes-high; count = fine .ops-high })
+  pub took-writable : Writable t × (t .count ≤ 32)
+  took-writable = rw (took .held) (record { boards = omega (arith, fine .boards-high); cells = omega (arith, fine .cells-high); modes = fine .modes-high }, fine .ops-high)
 
   pub took-written : (out : List ℕ) {w : Written} → w ≡ put (tableBytes (tableOf t)) out → IsWrite N out w
   unfolding written bytesOf onwards
   took-written out e = rw (took .said, ← took-back took (fine .words)) e
 
 pub refused-written : (N : Numbers) (q : Refusal) (out : List ℕ) → judgeNumbers N ≡ refusalOf q
-    → IsWrite N out (record { answer = refusalOf q; buffer = out })
+    → IsWrite N out (leaving (refusalOf q) out)
 unfolding written bytesOf onwards
 refused-written N q out e = let (n, a, b, x, y) = refusal-is {A = rules.Table} {B = ℕ} q in rw (e ∙ x, y)

@@ -11,7 +11,8 @@ use Rattle.rules.specs.Bytes.{tableBytes}
 use Rattle.table.specs.Tables.{tableOf}
 use Rattle.puts.specs.Puts.{stored}
 use Rattle.puts.specs.PutLaws.{stored-then, stored-front}
-use Rattle.writing.specs.WritingLaws.{head-size, table-size, table-parts}
+use Rattle.writing_head.specs.WritingHeadLaws.{head-size}
+use Rattle.writing.specs.WritingLaws.{table-size, table-parts}
 use Rattle.writing.proofs.put_table.Statement.{statement}
 use Rattle.writing.proofs.put_table.Tie as tie
 
@@ -33,8 +34,8 @@ returns c =
     let out = now (s .args .out) in
     let words : length (t .follow) ≡ 32 = simp length-map at (s .good .1 .0 .1 .1 .1 .1 .1 .1 .1 .0 .1 .0 .1) in
     let ops : length (t .ops) ≡ 32 = simp length-map at (s .good .1 .0 .1 .1 .1 .1 .1 .1 .1 .1 .0 .1 .0 .1) in
-    let size = table-size t words (s .pre .0 .modes) ops (s .pre .0 .count) in
-    let room : length (tableBytes (tableOf t)) ≤ length out = omega (arith, s .pre .1) in
+    let size = table-size t words (s .pre .0 .modes) ops (s .pre .1) in
+    let room : length (tableBytes (tableOf t)) ≤ length out = omega (arith, s .pre .2) in
     stored-then out 0 _ _ (x1 .put-head .ensures) (omega (arith, head-size t words (s .pre .0 .modes))) (x2 .put-ops .ensures)
     ∙ ap (λ (l : List _). stored out 0 l) (sym (table-parts t))
     ∙ stored-front out (tableBytes (tableOf t)) room

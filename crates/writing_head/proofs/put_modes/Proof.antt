@@ -3,10 +3,10 @@
 use mathlib.Core.Path.{_≡_, refl}
 use lib.ListN.{length, length-map}
 use Rattle.puts.specs.PutLaws.{stored-then}
-use Rattle.writing.specs.WritingLaws.{modes-size}
+use Rattle.writing_head.specs.WritingHeadLaws.{modes-size}
 use borrow.Author.Needs.{needs}
-use Rattle.writing.proofs.put_modes.Statement.{statement}
-use Rattle.writing.proofs.put_modes.Tie as tie
+use Rattle.writing_head.proofs.put_modes.Statement.{statement}
+use Rattle.writing_head.proofs.put_modes.Tie as tie
 
 mul-put-header : tie.Need-mul-put-header
 mul-put-header c = search needs

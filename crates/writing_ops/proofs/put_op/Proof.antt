@@ -3,8 +3,8 @@
 use mathlib.Core.Path.{refl}
 use Rattle.puts.specs.PutLaws.{stored-then}
 use borrow.Author.Needs.{needs}
-use Rattle.writing.proofs.put_op.Statement.{statement}
-use Rattle.writing.proofs.put_op.Tie as tie
+use Rattle.writing_ops.proofs.put_op.Statement.{statement}
+use Rattle.writing_ops.proofs.put_op.Tie as tie
 
 put-header-requires : tie.Need-put-header-requires
 put-header-requires c κs = search needs

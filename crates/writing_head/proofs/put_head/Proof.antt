@@ -3,8 +3,8 @@
 use mathlib.Core.Path.{refl}
 use Rattle.puts.specs.PutLaws.{stored-then}
 use borrow.Author.Needs.{needs}
-use Rattle.writing.proofs.put_head.Statement.{statement}
-use Rattle.writing.proofs.put_head.Tie as tie
+use Rattle.writing_head.proofs.put_head.Statement.{statement}
+use Rattle.writing_head.proofs.put_head.Tie as tie
 
 put-counts-requires : tie.Need-put-counts-requires
 put-counts-requires c κs = search needs

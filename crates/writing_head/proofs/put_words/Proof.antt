@@ -9,8 +9,8 @@ use borrow.Author.Needs.{needs}
 use Rattle.rules.specs.Bytes.{be32, joined}
 use Rattle.puts.specs.Puts.{stored}
 use Rattle.puts.specs.PutLaws.{stored-length, stored-turn}
-use Rattle.writing.proofs.put_words.Statement.{statement}
-use Rattle.writing.proofs.put_words.Tie as tie
+use Rattle.writing_head.proofs.put_words.Statement.{statement}
+use Rattle.writing_head.proofs.put_words.Tie as tie
 
 abbrev Inv-loop : tie.InvT-loop
 Inv-loop out₀ t modes i₀ out i = (i ≤ modes) × (length out ≡ length out₀) × (out ≡ stored out₀ 18 (joined be32 (take i (t .follow))))

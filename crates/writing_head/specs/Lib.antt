@@ -1,0 +1,2 @@
+pub mod WritingHead
+pub mod WritingHeadLaws
