@@ -16,7 +16,7 @@ use Rattle.rules.specs.Table.{Op, Table, noOp, nops, op, Accepted}
 use Rattle.rules.specs.Verdicts.{Verdict, accepted, refused, SHORT, SIZE, ORDER, MANY, RANGE, refuseIf, _then_, onwards, more}
 use Rattle.rules.specs.Bytes.{num8, num16, num32, words, be32, joined, opAt, opBytes, headBytes, tableBytes}
 use Rattle.rules.specs.Judge.{needed, notMany, ranged, fieldTest, repeatTest, fieldsFrom, lenOk, countsOk, setOk, eachSetOk, opOk, judgeWhole, headOf, withOps, opsPlace, headTest, opsFrom, judge, Numbers, opOfNumbers, headOfNumbers, numbersTest, opsOfNumbers, judgeNumbers}
-use Rattle.theory.specs.Numbers.{opNumbers, numbersOf, opsBytes, numbersBytes, CountsFit, SetsFit, OpFits, opIn, NumbersFit}
+use Rattle.theory.specs.Numbers.{opNumbers, numbersOf, opsBytes, numbersBytes, CountsFit, SetsFit, OpFits, opAmong, NumbersFit}
 use Rattle.theory.proofs.Says.{says-and}
 use Rattle.theory.proofs.Verdicts.{passes, refuses, then-accepts, then-refuses, then-same, onwards-accepts, onwards-refuses, more-refuses}
 use Rattle.theory.proofs.Judging.{HeadOk, says-set, says-op, says-each-set, says-len, says-counts, whole-accepts, numbers-end, numbers-next, numbers-row, judgeNumbers-row, numbers-ok}
@@ -95,7 +95,7 @@ module _ (H : Table) (pre there : List ℕ) (n : ℕ) (place : n ≡ length pre)
       )
 
 -- six numbers and the rest: the operation and the rest's operations
-next-op : (t d b r w m : ℕ) (ns : List ℕ) (k : ℕ) → opIn (t ∷ d ∷ b ∷ r ∷ w ∷ m ∷ ns) (suc k) ≡ opIn ns k
+next-op : (t d b r w m : ℕ) (ns : List ℕ) (k : ℕ) → opAmong (t ∷ d ∷ b ∷ r ∷ w ∷ m ∷ ns) (suc k) ≡ opAmong ns k
 next-op t d b r w m ns k =
     let l = t ∷ d ∷ b ∷ r ∷ w ∷ m ∷ ns in
     let place : 6 + 6 * k ≡ 6 * suc k = omega arith in
@@ -103,7 +103,7 @@ next-op t d b r w m ns k =
 
 -- where the whole operations fit, the numbers are judged as their bytes
 module _ (H : Table) where
-  ops-written : (ns pre : List ℕ) (left n : ℕ) → n ≡ length pre → ((k : ℕ) → 6 * k + 6 ≤ length ns → OpFits (opIn ns k))
+  ops-written : (ns pre : List ℕ) (left n : ℕ) → n ≡ length pre → ((k : ℕ) → 6 * k + 6 ≤ length ns → OpFits (opAmong ns k))
       → fieldsFrom 4 18 (opOk H) opAt (pre ++ opsBytes ns) left n ≡ opsOfNumbers H ns left n
   unfolding opsBytes
   ops-written [] pre left n place fit = no-field 4 18 (opOk H) opAt (pre ++ []) n left (omega (arith, length-append pre [])) ∙ sym (none left)
@@ -373,7 +373,7 @@ module _ (N : Numbers) where
 
 -- the first k operations in their ranges, a refusal of what comes behind them is the verdict
 ops-behind : (H : Table) (k : ℕ) (ns : List ℕ) (left all at : ℕ) {n a b : ℕ} → all ≡ k + left → 6 * k ≤ length ns
-    → ((j : ℕ) → j < k → opOk H (opIn ns j) ≡ true)
+    → ((j : ℕ) → j < k → opOk H (opAmong ns j) ≡ true)
     → opsOfNumbers H (drop (6 * k) ns) left (at + 21 * k) ≡ refused n a b → opsOfNumbers H ns all at ≡ refused n a b
 ops-behind H zero ns left all at count long good e =
     let same : all ≡ left = omega arith in
@@ -400,7 +400,7 @@ ops-behind H (suc k) ns left (suc all) at {n} {a} {b} count long good e =
 
 -- what stands before the operations in its ranges, and the first k operations in theirs, k below 32
 module _ (N : Numbers) (head : HeadOk (headOfNumbers N)) (k : ℕ) (few : k < 32)
-    (good : (j : ℕ) → j < k → opOk (headOfNumbers N) (opIn (N .ops) j) ≡ true) where
+    (good : (j : ℕ) → j < k → opOk (headOfNumbers N) (opAmong (N .ops) j) ≡ true) where
   behind-refused : {n a b : ℕ} → 6 * k < length (N .ops)
       → ((left : ℕ) → opsOfNumbers (headOfNumbers N) (drop (6 * k) (N .ops)) (suc left) (opsPlace (N .modes) + 21 * k) ≡ refused n a b)
       → judgeNumbers N ≡ refused n a b
@@ -416,19 +416,19 @@ module _ (N : Numbers) (head : HeadOk (headOfNumbers N)) (k : ℕ) (few : k < 32
       behind-refused some (λ left. short-numbers (headOfNumbers N) (drop (6 * k) (N .ops)) _ left (omega arith) (omega arith))
 
   -- a number of operation k that is too large for its field
-  pub op-too-large : 6 * k + 6 ≤ length (N .ops) → (OpFits (opIn (N .ops) k) → ⊥) → judgeNumbers N ≡ refused RANGE (opsPlace (N .modes) + 21 * k) 0
+  pub op-too-large : 6 * k + 6 ≤ length (N .ops) → (OpFits (opAmong (N .ops) k) → ⊥) → judgeNumbers N ≡ refused RANGE (opsPlace (N .modes) + 21 * k) 0
   op-too-large all large =
       let left-over = length-drop (6 * k) (N .ops) in
       behind-refused (omega arith)
       (λ left.
       whole-numbers (headOfNumbers N) (drop (6 * k) (N .ops)) _ left (omega arith)
       ∙ then-refuses _
-      (out-of-range _ _ (λ e. large (op-fits (headOfNumbers N) (head .len) (head .counts) (opIn (N .ops) k) e))))
+      (out-of-range _ _ (λ e. large (op-fits (headOfNumbers N) (head .len) (head .counts) (opAmong (N .ops) k) e))))
 
 -- ---- an accepted table
 
 -- its operations, as its numbers have them
-table-op : (os : List Op) (k : ℕ) → k < length os → opIn (joined opNumbers os) k ≡ getD os k noOp
+table-op : (os : List Op) (k : ℕ) → k < length os → opAmong (joined opNumbers os) k ≡ getD os k noOp
 unfolding joined
 table-op [] k h = absurd (omega arith)
 table-op (o ∷ os) zero h = refl

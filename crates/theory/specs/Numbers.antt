@@ -70,8 +70,8 @@ pub record OpFits (o : Op) : Type 0 where
   pub modes : o .modes < 2 ^ 32
 
 -- the operation k of a list of numbers
-abbrev pub opIn : List ℕ → ℕ → Op
-opIn ns k = opOfNumbers (drop (6 * k) ns)
+abbrev pub opAmong : List ℕ → ℕ → Op
+opAmong ns k = opOfNumbers (drop (6 * k) ns)
 
 -- each number fits its field, and so does the length of the field of the followers. (Nothing is asked of the numbers of an operation with
 -- numbers missing: it is refused before they are looked at.)
@@ -80,4 +80,4 @@ pub record NumbersFit (N : Numbers) : Type 0 where
   pub counts : CountsFit N
   pub sets : SetsFit N
   pub size : 4 + 4 * length (N .follow) < 65536
-  pub each : (k : ℕ) → 6 * k + 6 ≤ length (N .ops) → OpFits (opIn (N .ops) k)
+  pub each : (k : ℕ) → 6 * k + 6 ≤ length (N .ops) → OpFits (opAmong (N .ops) k)
