@@ -18,26 +18,26 @@ fn put_row(out: &mut [u8], at: usize, r: Row)
     requires { ⌜ at + 7 ≤ length (now out) ⌝ }
     ensures { λ _. ⌜ now (out .exit) ≡ stored (now (out .entry)) at (rowBytes (rowOf r)) ⌝ }
 {
-    let start = r.start.0 as u32;
-    let fst = r.fst.0 as u32;
+    let start = r.start.0;
+    let fst = r.fst.0;
     puts::put_header(out, at, 18, 4);
     puts::put16(out, at + 3, start);
     puts::put16(out, at + 5, fst);
 }
 
 // The row of an operation of the table.
-pub fn row_of(t: Table, i: usize, q: u32) -> Row
-    requires { ⌜ Good t × (i < t .count) × (1 ≤ q) × (q ≤ t .len) ⌝ }
-    ensures { λ r. ⌜ rowOf r ≡ rowIn (tableOf t) q i ⌝ }
+pub fn row_of(t: Table, i: usize, q: Ticks) -> Row
+    requires { ⌜ Good t × (i < t .count) × (1 ≤ q .0) × (q .0 ≤ t .len) ⌝ }
+    ensures { λ r. ⌜ rowOf r ≡ rowIn (tableOf t) (q .0) i ⌝ }
 {
     let start = t.ops[i].start;
-    rows::fold(Ticks(q as u16), Ticks(start as u16))
+    rows::fold(q, Ticks(start))
 }
 
 // The rows of the table at the period q, behind the field of the period.
-fn put_rows(out: &mut [u8], t: Table, q: u32)
-    requires { ⌜ Good t × (1 ≤ q) × (q ≤ t .len) × (5 + 7 * t .count ≤ length (now out)) ⌝ }
-    ensures { λ _. ⌜ now (out .exit) ≡ stored (now (out .entry)) 5 (joined rowBytes (replyOf (tableOf t) q .rows)) ⌝ }
+fn put_rows(out: &mut [u8], t: Table, q: Ticks)
+    requires { ⌜ Good t × (1 ≤ q .0) × (q .0 ≤ t .len) × (5 + 7 * t .count ≤ length (now out)) ⌝ }
+    ensures { λ _. ⌜ now (out .exit) ≡ stored (now (out .entry)) 5 (joined rowBytes (replyOf (tableOf t) (q .0) .rows)) ⌝ }
 {
     let mut i: usize = 0;
     while i < t.count {
@@ -48,11 +48,11 @@ fn put_rows(out: &mut [u8], t: Table, q: u32)
 }
 
 // A table folded at the period q, from the front of the buffer; the rest is kept.
-pub fn put_reply(out: &mut [u8], t: Table, q: u32)
-    requires { ⌜ Good t × (1 ≤ q) × (q ≤ t .len) × (5 + 7 * t .count ≤ length (now out)) ⌝ }
-    ensures { λ _. ⌜ now (out .exit) ≡ replyBytes (replyOf (tableOf t) q) ++ drop (5 + 7 * t .count) (now (out .entry)) ⌝ }
+pub fn put_reply(out: &mut [u8], t: Table, q: Ticks)
+    requires { ⌜ Good t × (1 ≤ q .0) × (q .0 ≤ t .len) × (5 + 7 * t .count ≤ length (now out)) ⌝ }
+    ensures { λ _. ⌜ now (out .exit) ≡ replyBytes (replyOf (tableOf t) (q .0)) ++ drop (5 + 7 * t .count) (now (out .entry)) ⌝ }
 {
     puts::put_header(out, 0, 17, 2);
-    puts::put16(out, 3, q);
+    puts::put16(out, 3, q.0);
     put_rows(out, t, q);
 }

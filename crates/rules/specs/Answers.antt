@@ -62,8 +62,14 @@ abbrev pub IsPlan : List ℕ → List ℕ → Written → Type 0
 IsPlan s out w = (v : Verdict Reply) × ReplyTo s v × (w ≡ written (bytesOf replyBytes v) out)
 
 -- ---- fold: a table's bytes in, the text out, which tells a refusal of the table too
+
+-- the text for a table's bytes, whole
+abbrev pub IsText : List ℕ → List ℕ → Type 0
+IsText s bytes = (v : Verdict Reply) × ReplyTo s v × (bytes ≡ textOf v)
+
+-- that text, in a lent buffer
 abbrev pub IsFold : List ℕ → List ℕ → Written → Type 0
-IsFold s out w = (v : Verdict Reply) × ReplyTo s v × (w ≡ put (textOf v) out)
+IsFold s out w = (bytes : List ℕ) × IsText s bytes × (w ≡ put bytes out)
 
 -- ---- unfold: a reply's bytes in, the starts' bytes out
 abbrev pub IsUnfold : List ℕ → List ℕ → Written → Type 0

@@ -8,7 +8,7 @@ use lib.Bits.{bitOr}
 use lib.ListN.{length, getD, drop}
 use Rattle.rules.specs.Sets.{shares, overlaps}
 use Rattle.rules.specs.Table.{Op, Table, nops, op, endOf, heldTo}
-use Rattle.rules.specs.Rows.{Row, Reply, ticks, unfoldAt}
+use Rattle.rules.specs.Rows.{Ticks, Row, Reply, ticks, unfoldAt}
 use Rattle.rules.specs.Verdicts.{Verdict, accepted, SHORT, ORDER, SIZE, RANGE, MANY, CLASH, RACE, Test, refuseIf, _then_, onwards, more, each}
 use Rattle.rules.specs.Bytes.{num8, num16, num32, words, opAt, rowAt}
 
@@ -245,14 +245,14 @@ judgeNumbers N =
 
 -- ---- a reply's bytes: "the period is 1 to 1000, each folded start is below it, each unfolded start is at most 999, and there are 1 to 32
 -- operations"
-unfoldable pub rowOk : ℕ → Row → Bool
-rowOk q r = ltb (r .start .number) q && leb (unfoldAt (ticks q) r .number) 999
+unfoldable pub rowOk : Ticks → Row → Bool
+rowOk q r = ltb (r .start .number) (q .number) && leb (unfoldAt q r .number) 999
 
 unfoldable pub replyTest : List ℕ → Test
 unfolding fieldTest lenOk needed _then_
 replyTest s = fieldTest s 0 17 2 (lenOk (num16 s 3)) then needed s 5
 
-unfoldable pub rowsFrom : ℕ → List ℕ → ℕ → ℕ → Verdict (List Row)
+unfoldable pub rowsFrom : Ticks → List ℕ → ℕ → ℕ → Verdict (List Row)
 unfolding fieldsFrom rowOk
 rowsFrom q = fieldsFrom 18 4 (rowOk q) rowAt
 
@@ -260,4 +260,4 @@ unfoldable pub judgeReply : List ℕ → Verdict Reply
 unfolding replyTest rowsFrom onwards _then_
 judgeReply s =
     replyTest s
-    then onwards (rowsFrom (num16 s 3) s 32 5) (λ rs. accepted (record { period = ticks (num16 s 3); rows = rs }))
+    then onwards (rowsFrom (ticks (num16 s 3)) s 32 5) (λ rs. accepted (record { period = ticks (num16 s 3); rows = rs }))

@@ -75,3 +75,7 @@ unfoldable pub textOf : Verdict Reply → List ℕ
 unfolding replyText refusedLine
 textOf (accepted R) = replyText R
 textOf (refused number a b) = refusedLine number a b
+
+-- no text is longer: 12 bytes for the period's line, and 24 for each of 32 rows
+abbrev pub longestText : ℕ
+longestText = 780

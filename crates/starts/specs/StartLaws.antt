@@ -33,7 +33,7 @@ unfolding heard more onwards
 heard-more x (accepted xs) = refl
 heard-more x (refused n a b) = refl
 
-module _ (q : ℕ) (s : List ℕ) (left at : ℕ) where
+module _ (q : Ticks) (s : List ℕ) (left at : ℕ) where
   abbrev here : Test
   here = repeatTest s at left 18 4 (rowOk q (rowAt s at))
 
@@ -68,7 +68,7 @@ heard-then (refused n a b) v g = refl
 
 module _ (s : List ℕ) where
   abbrev rows : Test
-  rows = heard (rowsFrom (num16 s 3) s 32 5)
+  rows = heard (rowsFrom (ticks (num16 s 3)) s 32 5)
 
   -- the field of the period, that something comes behind it, and the rows
   reply-heard : heard (judgeReply s) ≡ ((lenTest 17 s then needed s 5) then rows)
@@ -96,8 +96,8 @@ module _ (s : List ℕ) where
 -- ---- the starts
 
 -- a period and a row that are as the bytes have them give the start that the bytes have
-pub same-start : (s : List ℕ) (at : ℕ) {q : ℕ} {r : Row} → q ≡ num16 s 3 → r ≡ rowAt s at → unfoldAt (ticks q) r ≡ unfoldAt (ticks (num16 s 3)) (rowAt s at)
-same-start s at {q} {r} e f = ap (λ (n : ℕ). unfoldAt (ticks n) r) e ∙ ap (unfoldAt (ticks (num16 s 3))) f
+pub same-start : (s : List ℕ) (at : ℕ) {q : Ticks} {r : Row} → q ≡ ticks (num16 s 3) → r ≡ rowAt s at → unfoldAt q r ≡ unfoldAt (ticks (num16 s 3)) (rowAt s at)
+same-start s at {q} {r} e f = ap (λ (p : Ticks). unfoldAt p r) e ∙ ap (unfoldAt (ticks (num16 s 3))) f
 
 -- the bytes of a start
 abbrev start-bytes : Ticks → List ℕ

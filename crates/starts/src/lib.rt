@@ -8,7 +8,7 @@ ghost use Rattle.rules.specs.Bytes.{num16, rowAt};
 ghost use Rattle.rules.specs.Judge.{repeatTest, rowOk, rowsFrom, judgeReply};
 ghost use Rattle.rules.specs.Answers.{IsUnfold};
 ghost use Rattle.fields.specs.Verdicts.{tested, answered, leaving};
-ghost use Rattle.rows.specs.Rows.{rowOf};
+ghost use Rattle.rows.specs.Rows.{ticksOf, rowOf};
 ghost use Rattle.starts.specs.Starts.{heard, Unfolds, StartsStored};
 use fields::Answer;
 use fields::Refusal;
@@ -22,20 +22,20 @@ use rows::Ticks;
 // The row whose field is at a place.
 fn row_at(s: &[u8], at: usize) -> Row
     requires { ⌜ at + 7 ≤ length (now s) ⌝ }
-    ensures { λ r. ⌜ rowOf r ≡ rowAt (now (s .entry)) at ⌝ }
+    ensures { λ r. ⌜ (rowOf r ≡ rowAt (now (s .entry)) at) × (r .start .0 < 65536) × (r .fst .0 < 65536) ⌝ }
 {
     let start = fields::be16(s, at + 3);
     let fst = fields::be16(s, at + 5);
     Row {
-        start: Ticks(start as u16),
-        fst: Cycles(fst as u16),
+        start: Ticks(start),
+        fst: Cycles(fst),
     }
 }
 
 // The field of a row at a place inside the input, when `left` more may come.
 fn row_test(s: &[u8], at: usize, left: usize, q: Ticks) -> Verdict
-    requires { ⌜ at < length (now s) ⌝ }
-    ensures { λ r. ⌜ tested r ≡ repeatTest (now (s .entry)) at left 18 4 (rowOk (q .0) (rowAt (now (s .entry)) at)) ⌝ }
+    requires { ⌜ (at < length (now s)) × (q .0 < 65536) ⌝ }
+    ensures { λ r. ⌜ tested r ≡ repeatTest (now (s .entry)) at left 18 4 (rowOk (ticksOf q) (rowAt (now (s .entry)) at)) ⌝ }
 {
     let v = reader::repeated_at(s, at, left, 18, 4);
     match v {
@@ -49,7 +49,8 @@ fn row_test(s: &[u8], at: usize, left: usize, q: Ticks) -> Verdict
 
 // The rows up to the end of the input.
 fn rows_test(s: &[u8], q: Ticks) -> Verdict
-    ensures { λ r. ⌜ tested r ≡ heard (rowsFrom (q .0) (now (s .entry)) 32 5) ⌝ }
+    requires { ⌜ q .0 < 65536 ⌝ }
+    ensures { λ r. ⌜ tested r ≡ heard (rowsFrom (ticksOf q) (now (s .entry)) 32 5) ⌝ }
 {
     let mut at: usize = 5;
     let mut left: usize = 32;
@@ -67,9 +68,9 @@ fn rows_test(s: &[u8], q: Ticks) -> Verdict
 // The period of a reply.
 fn period_of(s: &[u8]) -> Ticks
     requires { ⌜ 5 ≤ length (now s) ⌝ }
-    ensures { λ q. ⌜ q .0 ≡ num16 (now (s .entry)) 3 ⌝ }
+    ensures { λ q. ⌜ (q .0 ≡ num16 (now (s .entry)) 3) × (q .0 < 65536) ⌝ }
 {
-    Ticks(fields::be16(s, 3) as u16)
+    Ticks(fields::be16(s, 3))
 }
 
 // The verdict on a reply's bytes.
@@ -89,14 +90,13 @@ pub fn judge(s: &[u8]) -> Verdict
 // ---- the starts, written
 
 // The start that the row at a place came from.
-fn start_at(s: &[u8], at: usize) -> u32
-    requires { ⌜ (5 ≤ length (now s)) × (at + 7 ≤ length (now s)) × (unfoldAt (ticks (num16 (now s) 3)) (rowAt (now s) at) .number ≤ 999) ⌝ }
-    ensures { λ r. ⌜ r ≡ unfoldAt (ticks (num16 (now (s .entry)) 3)) (rowAt (now (s .entry)) at) .number ⌝ }
+fn start_at(s: &[u8], at: usize) -> Ticks
+    requires { ⌜ (5 ≤ length (now s)) × (at + 7 ≤ length (now s)) ⌝ }
+    ensures { λ t. ⌜ ticksOf t ≡ unfoldAt (ticks (num16 (now (s .entry)) 3)) (rowAt (now (s .entry)) at) ⌝ }
 {
     let q = period_of(s);
     let row = row_at(s, at);
-    let t = rows::unfold(q, row);
-    t.0 as u32
+    rows::unfold(q, row)
 }
 
 // The starts of all n rows, from the front of the buffer.
@@ -107,7 +107,7 @@ fn put_starts(s: &[u8], out: &mut [u8], n: usize)
     let mut i: usize = 0;
     while i < n {
         let start = start_at(s, 5 + 7 * i);
-        puts::put16(out, 2 * i, start);
+        puts::put16(out, 2 * i, start.0);
         i += 1;
     }
 }

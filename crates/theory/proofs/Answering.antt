@@ -17,7 +17,7 @@ use Rattle.rules.specs.Verdicts.{Verdict, accepted, refused, ASK, ROOM, _then_,
 use Rattle.rules.specs.Bytes.{replyBytes, farthest}
 use Rattle.rules.specs.Judge.{judge, Numbers}
 use Rattle.rules.specs.Text.{replyText, textOf}
-use Rattle.rules.specs.Answers.{Written, put, written, Answers, Planned, ReplyTo, bytesOf, IsPlan, IsFold, IsUnfold, IsWrite, asked, periodAsked, IsMargin, IsPeriodOf, RightSaid, IsRight}
+use Rattle.rules.specs.Answers.{Written, put, written, Answers, Planned, ReplyTo, bytesOf, IsPlan, IsText, IsFold, IsUnfold, IsWrite, asked, periodAsked, IsMargin, IsPeriodOf, RightSaid, IsRight}
 use Rattle.theory.specs.Tests.{rightb, periodOf, planOf, askedTable, rightAnswer}
 use Rattle.theory.proofs.Says.{says-leb, says-and}
 use Rattle.theory.proofs.Verdicts.{never-refused, passed, then-first, then-rest, onwards-accepts, onwards-first}
@@ -142,11 +142,17 @@ plan-room s out T w read short plan =
     (rw (wrote, size), rw wrote)
 
 -- ---- fold: the text of the one reply
+pub text-unique : (s b c : List ℕ) → IsText s b → IsText s c → b ≡ c
+text-unique s b c (v, r, e) (u, q, f) = e ∙ ap textOf (reply-unique s v u r q) ∙ sym f
+
+pub text-exists : (s : List ℕ) → (b : List ℕ) × IsText s b
+text-exists s = (textOf (planOf s), (planOf s, reply-found s, refl))
+
 pub fold-unique : (s out : List ℕ) (w x : Written) → IsFold s out w → IsFold s out x → w ≡ x
-fold-unique s out w x (v, r, e) (u, q, f) = e ∙ ap (λ (y : Verdict Reply). put (textOf y) out) (reply-unique s v u r q) ∙ sym f
+fold-unique s out w x (b, r, e) (c, q, f) = e ∙ ap (λ (y : List ℕ). put y out) (text-unique s b c r q) ∙ sym f
 
 pub fold-exists : (s out : List ℕ) → (w : Written) × IsFold s out w
-fold-exists s out = (put (textOf (planOf s)) out, (planOf s, reply-found s, refl))
+fold-exists s out = let (b, text) = text-exists s in (put b out, (b, text, refl))
 
 -- an accepted table's text is that of its reply, put where there is room
 pub fold-replies : (s out : List ℕ) (T : Table) (q : ℕ) (w : Written) → judge s ≡ accepted T → IsPeriod T q
@@ -154,10 +160,10 @@ pub fold-replies : (s out : List ℕ) (T : Table) (q : ℕ) (w : Written) → ju
     → (w .answer ≡ accepted (length (replyText (replyOf T q))))
     × (w .buffer ≡ replyText (replyOf T q) ++ drop (length (replyText (replyOf T q))) out)
 unfolding textOf Answers
-fold-replies s out T q w read period room (v, r, e) =
+fold-replies s out T q w read period room (b, (v, r, t), e) =
     let text = replyText (replyOf T q) in
     let same = reply-unique s v (accepted (replyOf T q)) r (subst⁻¹ (λ (u : Verdict Table). Answers Planned u (accepted (replyOf T q))) read (replyOf T q, (q, period, refl), refl)) in
-    let wrote = e ∙ ap (λ (u : Verdict Reply). put (textOf u) out) same ∙ put-room text out room in
+    let wrote = e ∙ ap (λ (y : List ℕ). put y out) (t ∙ ap textOf same) ∙ put-room text out room in
     (rw wrote, rw wrote)
 
 -- ---- the period of a table's bytes
@@ -228,13 +234,13 @@ pub write-keeps : (N : Numbers) (out : List ℕ) (w : Written) (n a b : ℕ) →
 write-keeps N out w n a b e no-table = rw e (refusal-keeps _ out n a b (rw e at no-table))
 
 pub fold-keeps : (s out : List ℕ) (w : Written) (n a b : ℕ) → IsFold s out w → w .answer ≡ refused n a b → w .buffer ≡ out
-fold-keeps s out w n a b (v, r, e) no-text = rw e (put-refused (textOf v) out n a b (rw e at no-text))
+fold-keeps s out w n a b (text, r, e) no-text = rw e (put-refused text out n a b (rw e at no-text))
 
 pub plan-length : (s out : List ℕ) (w : Written) → IsPlan s out w → length (w .buffer) ≡ length out
 plan-length s out w (v, r, e) = rw e (written-length _ out)
 
 pub fold-length : (s out : List ℕ) (w : Written) → IsFold s out w → length (w .buffer) ≡ length out
-fold-length s out w (v, r, e) = rw e (put-length (textOf v) out)
+fold-length s out w (b, r, e) = rw e (put-length b out)
 
 pub unfold-length : (s out : List ℕ) (w : Written) → IsUnfold s out w → length (w .buffer) ≡ length out
 unfold-length s out w e = rw e (written-length _ out)
@@ -247,8 +253,11 @@ module _ (s t : List ℕ) (near : take farthest s ≡ take farthest t) where
   pub plan-near : (out : List ℕ) (w : Written) → IsPlan s out w → IsPlan t out w
   plan-near out w (v, r, e) = (v, rw (no-farther s t near) at r, e)
 
+  pub text-near : (b : List ℕ) → IsText s b → IsText t b
+  text-near b (v, r, e) = (v, rw (no-farther s t near) at r, e)
+
   pub fold-near : (out : List ℕ) (w : Written) → IsFold s out w → IsFold t out w
-  fold-near out w (v, r, e) = (v, rw (no-farther s t near) at r, e)
+  fold-near out w (b, r, e) = (b, text-near b r, e)
 
   pub period-of-near : (v : Verdict ℕ) → IsPeriodOf s v → IsPeriodOf t v
   period-of-near v x = rw (no-farther s t near) at x

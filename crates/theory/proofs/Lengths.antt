@@ -154,7 +154,7 @@ says-same false true s t f g = s .1 (g (t .0 refl))
 says-same false false s t f g = refl
 
 -- counts in their ranges: 32 modes at most
-modes-few : (H : Table) → countsOk (H .boards) (H .cells) (H .modes) ≡ true → H .modes ≤ 32
+pub modes-few : (H : Table) → countsOk (H .boards) (H .cells) (H .modes) ≡ true → H .modes ≤ 32
 modes-few H e = says-counts (H .boards) (H .cells) (H .modes) .0 e .1 .1 .1 .1
 
 module _ (n : ℕ) (s : List ℕ) where

@@ -13,6 +13,7 @@ pub mod Verdicts
 pub mod Carry
 pub mod Judging
 pub mod Lengths
+pub mod Figures
 pub mod Bytes
 pub mod Numbers
 pub mod Replies

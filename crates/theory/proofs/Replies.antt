@@ -29,7 +29,7 @@ fold-below : (q t : ℕ) → 1 ≤ q → foldAt (ticks q) (ticks t) .start .numb
 fold-below q t low = omega (arith, div-add-mod' t q, mod-lt t low)
 
 -- the row of an operation
-abbrev folded : ℕ → Op → Row
+abbrev pub folded : ℕ → Op → Row
 folded q o = foldAt (ticks q) (ticks (o .start))
 
 unfold-each : (q : ℕ) (os : List Op) → map (unfoldAt (ticks q)) (map (folded q) os) ≡ map (λ (o : Op). ticks (o .start)) os
@@ -58,27 +58,27 @@ row-back r h pre post n place =
 row-repeated : Repeated 18 4 rowAt rowBytes RowFits
 row-repeated = record { width = λ r. refl; tagged = λ r post. refl; sized = λ r post. refl; back = row-back }
 
-says-row : (q : ℕ) (r : Row) → Says (rowOk q r) ((r .start .number < q) × (unfoldAt (ticks q) r .number ≤ 999))
+says-row : (q : Ticks) (r : Row) → Says (rowOk q r) ((r .start .number < q .number) × (unfoldAt q r .number ≤ 999))
 unfolding rowOk
 says-row q r = says-and _ _ (says-ltb _ _) (says-leb _ _)
 
 -- a row in its ranges fits
-row-fits : (q : ℕ) (r : Row) → 1 ≤ q → q ≤ 1000 → rowOk q r ≡ true → RowFits r
+row-fits : (q : Ticks) (r : Row) → 1 ≤ q .number → q .number ≤ 1000 → rowOk q r ≡ true → RowFits r
 row-fits q r low high h =
     let (below, near) = says-row q r .0 h in
     record { start = omega arith; fst = omega (arith, mul-le-mul-left (r .fst .number) low) }
 
 -- a start of an accepted table folds to a row in its ranges
-fold-ok : (q t : ℕ) → 1 ≤ q → t ≤ 999 → rowOk q (foldAt (ticks q) (ticks t)) ≡ true
+fold-ok : (q t : ℕ) → 1 ≤ q → t ≤ 999 → rowOk (ticks q) (foldAt (ticks q) (ticks t)) ≡ true
 fold-ok q t low h =
-    says-row q (foldAt (ticks q) (ticks t)) .1
+    says-row (ticks q) (foldAt (ticks q) (ticks t)) .1
     (fold-below q t low, omega (arith, ap (λ (x : Ticks). x .number) (unfold-fold q t)))
 
 -- ---- a reply in its ranges is read back
 
 module _ (R : Reply) (d : Row) (low : 1 ≤ R .period .number) (high : R .period .number ≤ 1000)
     (some : 1 ≤ length (R .rows)) (few : length (R .rows) ≤ 32)
-    (each : (i : ℕ) → i < length (R .rows) → rowOk (R .period .number) (getD (R .rows) i d) ≡ true) where
+    (each : (i : ℕ) → i < length (R .rows) → rowOk (R .period) (getD (R .rows) i d) ≡ true) where
   period-back : num16 (replyBytes R) 3 ≡ R .period .number
   unfolding replyBytes
   period-back = two-bytes (R .period .number) (omega arith)
@@ -91,18 +91,18 @@ module _ (R : Reply) (d : Row) (low : 1 ≤ R .period .number) (high : R .period
       then-accepts _ (field ∙ ranged-yes _ 0 (ap lenOk period-back ∙ len-ok (R .period .number) low high))
       ∙ passes (leb (length (replyBytes R)) 5) ORDER 5 0 (lt-leb (length (replyBytes R)) 5 (omega arith))
 
-  rows-back : rowsFrom (R .period .number) (replyBytes R) 32 5 ≡ accepted (R .rows)
+  rows-back : rowsFrom (R .period) (replyBytes R) 32 5 ≡ accepted (R .rows)
   unfolding rowsFrom replyBytes
   rows-back =
-      fields-back row-repeated d (rowOk (R .period .number)) (R .rows) (take 5 (replyBytes R)) 32 5 (omega arith)
+      fields-back row-repeated d (rowOk (R .period)) (R .rows) (take 5 (replyBytes R)) 32 5 (omega arith)
       (λ i h. row-fits _ _ low high (each i h))
-      ∙ fields-accepted d 4 (rowOk (R .period .number)) (R .rows) 32 5 few each
+      ∙ fields-accepted d 4 (rowOk (R .period)) (R .rows) 32 5 few each
 
   reply-back : judgeReply (replyBytes R) ≡ accepted R
   unfolding judgeReply
   reply-back =
       then-accepts _ reply-passes
-      ∙ ap (λ (q : ℕ). onwards (rowsFrom q (replyBytes R) 32 5) (λ rs. accepted (record { period = ticks q; rows = rs }))) period-back
+      ∙ ap (λ (q : ℕ). onwards (rowsFrom (ticks q) (replyBytes R) 32 5) (λ rs. accepted (record { period = ticks q; rows = rs }))) period-back
       ∙ onwards-accepts _ rows-back
 
 -- a table's reply is read back
@@ -112,7 +112,7 @@ reply-read T ok q low high =
     let count = length-map (T .ops) (folded q) in
     reply-back (replyOf T q) (folded q noOp) low (omega arith) (omega arith) (omega arith)
     (λ i h.
-    ap (rowOk q) (List·getD-map (folded q) (T .ops) i noOp)
+    ap (rowOk (ticks q)) (List·getD-map (folded q) (T .ops) i noOp)
     ∙ fold-ok q (op T i .start) low (let o = ok .each i (omega arith) in omega arith))
 
 -- ---- a reply that is accepted, as its bytes have it
@@ -128,15 +128,15 @@ module _ (s : List ℕ) where
   -- the rows of tests that the judgement of a reply is
   pub reply-row : judgeReply s
       ≡ ((fieldTest s 0 17 2 (lenOk (num16 s 3)) then needed s 5)
-      then onwards (rowsFrom (num16 s 3) s 32 5) (λ rs. accepted (record { period = ticks (num16 s 3); rows = rs })))
+      then onwards (rowsFrom (ticks (num16 s 3)) s 32 5) (λ rs. accepted (record { period = ticks (num16 s 3); rows = rs })))
   unfolding judgeReply replyTest
   reply-row = refl
 
-  rows-in : (rs : List Row) → rowsFrom (num16 s 3) s 32 5 ≡ accepted rs → (1 ≤ num16 s 3) × (num16 s 3 ≤ 1000) → 5 ≤ length s
+  rows-in : (rs : List Row) → rowsFrom (ticks (num16 s 3)) s 32 5 ≡ accepted rs → (1 ≤ num16 s 3) × (num16 s 3 ≤ 1000) → 5 ≤ length s
       → ReplyIn s (record { period = ticks (num16 s 3); rows = rs })
   unfolding rowsFrom
   rows-in rs come ranges long =
-      let q = num16 s 3 in
+      let q = ticks (num16 s 3) in
       let d = rowAt s 0 in
       let passing = fields-passing 18 4 (rowOk q) rowAt s d 32 5 rs come in
       let place : (i : ℕ) → 5 + i * 7 ≡ 5 + 7 * i = λ i. omega arith in
@@ -155,6 +155,6 @@ module _ (s : List ℕ) where
       let here = sym reply-row ∙ e in
       let test = then-first (fieldTest s 0 17 2 (lenOk (num16 s 3))) (needed s 5) (then-first _ _ here .1) .1 in
       let (long, ok) = field-passed s 0 17 2 (lenOk (num16 s 3)) test in
-      let (rs, come, whole) = onwards-first (rowsFrom (num16 s 3) s 32 5) _ (then-rest _ _ here) in
+      let (rs, come, whole) = onwards-first (rowsFrom (ticks (num16 s 3)) s 32 5) _ (then-rest _ _ here) in
       let same : R ≡ record { period = ticks (num16 s 3); rows = rs } = cc in
       rw same (rows-in rs come (says-len (num16 s 3) .0 ok) long)

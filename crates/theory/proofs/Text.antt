@@ -2,15 +2,24 @@
 -- Assumes nothing.
 use Prim.Native.Nat.{ℕ, zero, suc, _+_, _-_, _*_, _/_, _%_, _^_, _<_, _≤_}
 use mathlib.Core.Path.{_≡_, refl, sym, ap, subst⁻¹, _∙_}
-use mathlib.Core.List.{List, [], _∷_, _++_, append-assoc, append-nil}
+use mathlib.Core.List.{List, [], _∷_, _++_, map, append-assoc, append-nil}
 use native.Mathlib.Decide.{decLt}
+use native.Mathlib.Nat.{div-le-self}
 use native.Mathlib.Omega.{arith}
-use lib.ListN.{length, getD, length-append}
+use lib.ListN.{length, getD, length-append, length-map, List·getD-map}
 use borrow.Author.Tests.{lt-ltb, le-ltb}
-use Rattle.rules.specs.Rows.{Row}
-use Rattle.rules.specs.Text.{digits, decimal, periodWord, opWord, startWord, fstWord, refusedWord, space, newline, rowLine, rowLines, periodLine, refusedLine, textOf}
+use Rattle.rules.specs.Table.{Table, nops, op, noOp, Accepted}
+use Rattle.rules.specs.Rows.{Row, Reply, replyOf}
+use Rattle.rules.specs.Verdicts.{Verdict, accepted, refused}
+use Rattle.rules.specs.Bytes.{farthest}
+use Rattle.rules.specs.Judge.{judge}
+use Rattle.rules.specs.Text.{digits, decimal, periodWord, opWord, startWord, fstWord, refusedWord, space, newline, rowLine, rowLines, periodLine, refusedLine, replyText, textOf, longestText}
+use Rattle.rules.specs.Answers.{Answers, Planned, ReplyTo}
 use Rattle.rules.specs.Bench.{All, k1-bytes}
 use Rattle.theory.specs.Tests.{planOf}
+use Rattle.theory.proofs.Judging.{judge-accepted}
+use Rattle.theory.proofs.Figures.{figures-small}
+use Rattle.theory.proofs.Replies.{folded}
 
 -- ---- the digits, one by one
 
@@ -222,6 +231,66 @@ rows-snoc (x ∷ rs) i n r e =
     ∙ ap (λ (l : List ℕ). rowLine i x ++ l) (rows-snoc rs (suc i) n r (omega arith))
     ∙ sym (append-assoc (rowLine i x) (rowLines (suc i) rs) (rowLine n r))
     ∙ ap (λ (l : List ℕ). l ++ rowLine n r) (sym (rows-first i x rs))
+
+-- ---- no text is longer than longestText
+
+-- lines of rows whose dates and start indices are below 1000
+rows-short : (d : Row) (rs : List Row) (i : ℕ) → i + length rs ≤ 100
+    → ((k : ℕ) → k < length rs → (getD rs k d .start .number < 1000) × (getD rs k d .fst .number < 1000))
+    → length (rowLines i rs) ≤ 24 * length rs
+rows-short d [] i h each = omega (arith, ap length (rows-none i))
+rows-short d (r ∷ rs) i h each =
+    let (start, fst) = each 0 (omega arith) in
+    omega (
+      arith,
+      ap length (rows-first i r rs),
+      length-append (rowLine i r) (rowLines (suc i) rs),
+      row-short i r (omega arith) start fst,
+      rows-short d rs (suc i) (omega arith) (λ k g. each (suc k) (omega arith)),
+    )
+
+-- a reply opened, its lines closed
+reply-text : (T : Table) (q : ℕ) → replyText (replyOf T q) ≡ periodLine q ++ rowLines 0 (map (folded q) (T .ops))
+unfolding replyText replyOf
+reply-text T q = refl
+
+module _ (T : Table) (q : ℕ) (ok : Accepted T) where
+  -- an operation starts before date 1000, and is folded to no later date and no higher index
+  row-small : (k : ℕ) → k < nops T → (folded q (op T k) .start .number < 1000) × (folded q (op T k) .fst .number < 1000)
+  row-small k h =
+      let start = op T k .start in
+      let small : start < 1000 = omega (arith, ok .each k h .lasts, ok .each k h .fits, ok .len-high) in
+      (omega arith, omega (arith, div-le-self start q))
+
+  pub reply-longest : q ≤ T .len → length (replyText (replyOf T q)) ≤ longestText
+  reply-longest h =
+      let count = length-map (T .ops) (folded q) in
+      let rows : length (rowLines 0 (map (folded q) (T .ops))) ≤ 24 * length (map (folded q) (T .ops)) =
+      rows-short (folded q noOp) (map (folded q) (T .ops)) 0 (omega (arith, ok .ops-high))
+      (λ k g. rw (List·getD-map (folded q) (T .ops) k noOp) (row-small k (omega arith)))
+      in
+      omega (
+        arith,
+        ap length (reply-text T q),
+        length-append (periodLine q) (rowLines 0 (map (folded q) (T .ops))),
+        period-short q (omega (arith, ok .len-high)),
+        rows,
+        ok .ops-high,
+      )
+
+-- whatever was judged, with small figures where it was refused
+answer-longest : (u : Verdict Table) (v : Verdict Reply) → ((T : Table) → u ≡ accepted T → Accepted T)
+    → ((n a b : ℕ) → u ≡ refused n a b → (n ≤ 9) × (a ≤ farthest) × (b ≤ farthest)) → Answers Planned u v → length (textOf v) ≤ longestText
+unfolding Answers textOf
+answer-longest (accepted T) v good small (R, (q, period, e), f) =
+    rw (f ∙ ap accepted e) (reply-longest T q (good T refl) (period .high))
+answer-longest (refused n a b) v good small e =
+    let (h, g, f) = small n a b refl in
+    rw e (omega (arith, refused-short n a b (omega arith) (omega arith) (omega arith)))
+
+-- the text for a table's bytes
+pub text-longest : (s : List ℕ) (v : Verdict Reply) → ReplyTo s v → length (textOf v) ≤ longestText
+text-longest s v = answer-longest (judge s) v (judge-accepted s) (figures-small s)
 
 -- ---- "it prints the two lines `period 3` and `op 0 start 1 fst 0`"
 pub k1-text : textOf (planOf k1-bytes)

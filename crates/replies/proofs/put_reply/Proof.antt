@@ -38,8 +38,8 @@ returns c =
     let out = s .args .out .now in
     let count = good-count t (s .pre .0) in
     let room : 5 + 7 * nops T ≤ length out = omega (arith, s .pre .3) in
-    reply-front T (s .args .q) out room (first .put-header .ensures) (second .put16 .ensures) (rows .put-rows .ensures)
-    ∙ ap (λ (n : ℕ). replyBytes (replyOf T (s .args .q)) ++ drop (5 + 7 * n) out) (sym count)
+    reply-front T (s .args .q .0) out room (first .put-header .ensures) (second .put16 .ensures) (rows .put-rows .ensures)
+    ∙ ap (λ (n : ℕ). replyBytes (replyOf T (s .args .q .0)) ++ drop (5 + 7 * n) out) (sym count)
 
 pub put-reply-spec : {M : Type 1} → statement M
 put-reply-spec =

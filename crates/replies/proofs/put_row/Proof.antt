@@ -6,12 +6,6 @@ use borrow.Author.Needs.{needs}
 use Rattle.replies.proofs.put_row.Statement.{statement}
 use Rattle.replies.proofs.put_row.Tie as tie
 
-cast-start : tie.Need-cast-start
-cast-start c = search needs
-
-cast-fst : tie.Need-cast-fst
-cast-fst c = search needs
-
 put-header-requires : tie.Need-put-header-requires
 put-header-requires c κs = search needs
 
@@ -41,8 +35,6 @@ pub put-row-spec : {M : Type 1} → statement M
 put-row-spec =
     tie.close
     (tie.spec
-    cast-start
-    cast-fst
     put-header-requires
     add-put16
     put16-requires

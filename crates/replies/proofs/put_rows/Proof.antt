@@ -16,13 +16,13 @@ use Rattle.replies.proofs.put_rows.Statement.{statement}
 use Rattle.replies.proofs.put_rows.Tie as tie
 
 abbrev Inv-loop : tie.InvT-loop
-Inv-loop out₀ t q i₀ out i = (i ≤ t .count) × (length out ≡ length out₀) × (out ≡ stored out₀ 5 (joined rowBytes (take i (replyOf (tableOf t) q .rows))))
+Inv-loop out₀ t q i₀ out i = (i ≤ t .count) × (length out ≡ length out₀) × (out ≡ stored out₀ 5 (joined rowBytes (take i (replyOf (tableOf t) (q .0) .rows))))
 
 abbrev μ-loop : tie.MeasureT-loop
 μ-loop out₀ t q i₀ out i = t .count - i
 
 loop-holds : tie.Need-loop-holds Inv-loop μ-loop
-loop-holds c = let a = c .before .args in (omega arith, refl, rows-none (tableOf (a .t)) (a .q) (a .out .now))
+loop-holds c = let a = c .before .args in (omega arith, refl, rows-none (tableOf (a .t)) (a .q .0) (a .out .now))
 
 row-of-requires : tie.Need-row-of-requires Inv-loop μ-loop
 row-of-requires c κs =
@@ -58,7 +58,7 @@ loop-again c =
     let h : l .i < nops T = omega (arith, good-count (s .args .t) (s .pre .0)) in (
       omega arith,
       (ap length (put .ensures) ∙ simp stored-length) ∙ l .inv .1,
-      rows-turn T (s .args .q) (s .args .out .now) (l .i) h (l .inv .2)
+      rows-turn T (s .args .q .0) (s .args .out .now) (l .i) h (l .inv .2)
           (put .ensures ∙ ap (λ (r : Row). stored (l .out) (5 + 7 * l .i) (rowBytes r)) (row .ensures)),
     )
 
@@ -71,7 +71,7 @@ returns c =
     let s = c .before .before .before .before in
     let T = tableOf (s .args .t) in
     let h : nops T ≤ l .i = omega (arith, good-count (s .args .t) (s .pre .0)) in
-    rw (rows-end T (s .args .q) (l .i) h) at (l .inv .2)
+    rw (rows-end T (s .args .q .0) (l .i) h) at (l .inv .2)
 
 pub put-rows-spec : {M : Type 1} → statement M
 put-rows-spec =

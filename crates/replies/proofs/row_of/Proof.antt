@@ -1,10 +1,10 @@
--- The operation's start and the period fit 16 bits, since the table is accepted.
+-- The operation's start is folded.
 -- Assumes nothing.
 use native.Mathlib.Omega.{arith}
 use mathlib.Core.Path.{sym, ap, _∙_}
 use Rattle.rules.specs.Table as rules
 use Rattle.rules.specs.Rows.{ticks, foldAt}
-use Rattle.table.specs.TableLaws.{op-at, good-few, good-op}
+use Rattle.table.specs.TableLaws.{op-at, good-few}
 use borrow.Author.Needs.{needs}
 use Rattle.replies.proofs.row_of.Statement.{statement}
 use Rattle.replies.proofs.row_of.Tie as tie
@@ -15,20 +15,14 @@ mul-start c = omega (arith, good-few _ (c .pre .0))
 element-copy-out-start : tie.Need-element-copy-out-start
 element-copy-out-start c = omega (arith, good-few _ (c .pre .0))
 
-cast-t9 : tie.Need-cast-t9
-cast-t9 c = omega (arith, c .pre .0 .accepted .len-high)
-
-cast-t11 : tie.Need-cast-t11
-cast-t11 c = omega (arith, good-op _ (c .pre .0) (c .args .i) (c .pre .1) .fits, c .pre .0 .accepted .len-high)
-
 fold-requires : tie.Need-fold-requires
 fold-requires c κs = search needs
 
 returns : tie.Need-returns
 returns c =
     let s = c .before in
-    c .fold .ensures ∙ ap (λ (o : rules.Op). foldAt (ticks (s .args .q)) (ticks (o .start))) (sym (op-at (s .args .t1) (s .args .i) (s .pre .1)))
+    c .fold .ensures ∙ ap (λ (o : rules.Op). foldAt (ticks (s .args .q .0)) (ticks (o .start))) (sym (op-at (s .args .t1) (s .args .i) (s .pre .1)))
 
 pub row-of-spec : {M : Type 1} → statement M
 row-of-spec =
-    tie.close (tie.spec mul-start element-copy-out-start cast-t9 cast-t11 fold-requires returns)
+    tie.close (tie.spec mul-start element-copy-out-start fold-requires returns)

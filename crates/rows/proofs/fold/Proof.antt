@@ -9,11 +9,11 @@ use borrow.Author.Needs.{needs}
 use Rattle.rows.proofs.fold.Statement.{statement}
 use Rattle.rows.proofs.fold.Tie as tie
 
-rem-t5 : tie.Need-rem-t5
-rem-t5 c = search needs
+rem-start : tie.Need-rem-start
+rem-start c = search needs
 
-div-t7 : tie.Need-div-t7
-div-t7 c = search needs
+div-fst : tie.Need-div-fst
+div-fst c = search needs
 
 returns : tie.Need-returns
 returns c =
@@ -23,4 +23,4 @@ returns c =
     ap (λ (s : ℕ). record { start = ticks s; fst = cycles (a / q) }) e
 
 pub fold-spec : {M : Type 1} → statement M
-fold-spec = tie.close (tie.spec rem-t5 div-t7 returns)
+fold-spec = tie.close (tie.spec rem-start div-fst returns)

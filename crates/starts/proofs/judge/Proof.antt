@@ -5,6 +5,7 @@ use mathlib.Core.Path.{ap, _∙_}
 use denote.Ref.{now}
 use native.Mathlib.Omega.{arith}
 use lib.ListN.{length}
+use Rattle.rules.specs.Rows.{ticks}
 use Rattle.rules.specs.Judge.{rowsFrom}
 use Rattle.fields.specs.RefusalLaws.{passed-as, refused-as}
 use Rattle.starts.specs.Starts.{heard}
@@ -47,7 +48,7 @@ returns-3 c =
     let s = now (l .before .before .args .s) in
     let long : 5 < length s = omega arith in
     c .rows-test .ensures
-    ∙ ap (λ (q : ℕ). heard (rowsFrom q s 32 5)) (c .before .period-of .ensures)
+    ∙ ap (λ (q : ℕ). heard (rowsFrom (ticks q) s 32 5)) (c .before .period-of .ensures .0)
     ∙ rows-there s (passed-as (l .len-test .ensures) (e .enum-told .given .1)) long
 
 pub judge-spec : {M : Type 1} → statement M

@@ -1,16 +1,16 @@
 -- The first i starts are written, and nothing else has changed.
 -- Assumes nothing.
-use Prim.Native.Nat.{ℕ, _*_, _-_, _≤_}
+use Prim.Native.Nat.{_*_, _-_, _≤_}
 use mathlib.Core.Path.{_≡_, refl, ap, _∙_}
 use native.Mathlib.Omega.{arith}
 use lib.ListN.{length}
 use denote.Ref.{now}
-use Rattle.theory.proofs.Replies.{reply-in}
+use Rattle.rules.specs.Rows.{Ticks}
 use Rattle.rules.specs.Bytes.{be16}
 use Rattle.puts.specs.Puts.{stored}
 use Rattle.puts.specs.PutLaws.{stored-length}
 use Rattle.starts.specs.Starts.{StartsStored}
-use Rattle.starts.specs.StartLaws.{heard-reply, starts-none, starts-turn}
+use Rattle.starts.specs.StartLaws.{starts-none, starts-turn}
 use Rattle.starts.proofs.put_starts.Statement.{statement}
 use Rattle.starts.proofs.put_starts.Tie as tie
 
@@ -31,11 +31,7 @@ add-start-at c = let st = c .before .before .before .before in omega (arith, st 
 
 start-at-requires : tie.Need-start-at-requires Inv-loop μ-loop
 start-at-requires c κs =
-    let st = c .before .before .before .before in
-    let s = now (st .args .s) in
-    let (R, read) = heard-reply s (st .pre .0) in
-    let is = reply-in s R read in
-    (omega (arith, st .pre .1), omega (arith, st .pre .1), is .near (c .before .loop .i) (omega (arith, st .pre .1, is .size)))
+    let st = c .before .before .before .before in (omega (arith, st .pre .1), omega (arith, st .pre .1))
 
 mul-put16 : tie.Need-mul-put16 Inv-loop μ-loop
 mul-put16 c = let st = c .before .before .before .before .before .before in omega (arith, st .pre .1, st .good .0 .0)
@@ -62,7 +58,7 @@ loop-again c =
       omega arith,
       (ap length (put .ensures) ∙ simp stored-length) ∙ l .inv .1,
       starts-turn (now (st .args .s)) (now (st .args .out)) (st .args .n) (l .i) _ _ (st .pre .1) (omega arith) (l .inv .2)
-          (put .ensures ∙ ap (λ (x : ℕ). stored (l .out) (2 * l .i) (be16 x)) (start .ensures)),
+          (put .ensures ∙ ap (λ (t : Ticks). stored (l .out) (2 * l .i) (be16 (t .number))) (start .ensures)),
     )
 
 same-length : tie.Need-same-length Inv-loop μ-loop

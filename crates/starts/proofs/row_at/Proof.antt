@@ -16,15 +16,9 @@ add-be16-2 c = search needs
 be16-requires-2 : tie.Need-be16-requires-2
 be16-requires-2 c κs = search needs
 
-cast-t6 : tie.Need-cast-t6
-cast-t6 c = search needs
-
-cast-t8 : tie.Need-cast-t8
-cast-t8 c = search needs
-
 returns : tie.Need-returns
-returns c = rw (c .before .be16 .ensures .0, c .be162 .ensures .0)
+returns c = (rw (c .before .be16 .ensures .0, c .be162 .ensures .0), c .before .be16 .ensures .1, c .be162 .ensures .1)
 
 pub row-at-spec : {M : Type 1} → statement M
 row-at-spec =
-    tie.close (tie.spec add-be16 be16-requires add-be16-2 be16-requires-2 cast-t6 cast-t8 returns)
+    tie.close (tie.spec add-be16 be16-requires add-be16-2 be16-requires-2 returns)

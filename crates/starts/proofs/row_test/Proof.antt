@@ -6,6 +6,7 @@ use Rattle.rules.specs.Judge.{rowOk}
 use Rattle.fields.specs.FieldLaws.{repeat-passed}
 use Rattle.fields.specs.RefusalLaws.{passed-as, refused-as}
 use Rattle.fields.specs.FieldLaws.{repeat-bad, repeat-ranged}
+use Rattle.rows.specs.Rows.{ticksOf}
 use borrow.Author.Needs.{needs}
 use Rattle.starts.proofs.row_test.Statement.{statement}
 use Rattle.starts.proofs.row_test.Tie as tie
@@ -23,7 +24,7 @@ row-at-requires : tie.Need-row-at-requires
 row-at-requires c κs = let f = c .before .before in omega (arith, repeat-passed _ _ _ _ _ (sym (passed-as (f .repeated-at .ensures) (c .enum-told .given .1))) .0)
 
 row-ok-requires : tie.Need-row-ok-requires
-row-ok-requires c κs = search needs
+row-ok-requires c κs = record { period = search needs; start = search needs; fst = search needs }
 
 range-test-requires : tie.Need-range-test-requires
 range-test-requires c κs = search needs
@@ -38,7 +39,7 @@ returns-2 c =
     let q = f .before .before .args .q in
     c .range-test .ensures
     ∙ repeat-ranged _ _ _ _ _ _ _ (passed-as (f .repeated-at .ensures) (b .before .enum-told .given .1))
-    (c .before .row-ok .ensures ∙ ap (rowOk (q .0)) (b .row-at .ensures))
+    (c .before .row-ok .ensures ∙ ap (rowOk (ticksOf q)) (b .row-at .ensures .0))
 
 pub row-test-spec : {M : Type 1} → statement M
 row-test-spec =
