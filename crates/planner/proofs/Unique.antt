@@ -1,11 +1,11 @@
 -- Two answers of the code that a promise allows are equal, and so is what they leave in the buffer.
 -- Assumes nothing.
 use Prim.Native.Nat.{ℕ}
-use mathlib.Core.Path.{_≡_, sym, ap}
+use mathlib.Core.Path.{_≡_, sym, ap, _∙_}
 use mathlib.Core.List.{List}
 use Rattle.rules.specs.Judge.{Numbers}
 use Rattle.rules.specs.Answers.{IsPlan, IsFold, IsUnfold, IsWrite, IsMargin, IsRight}
-use Rattle.theory.proofs.Answering.{plan-unique, fold-unique, unfold-unique, write-unique, margin-unique, right-unique}
+use Rattle.theory.proofs.Answering.{plan-unique, text-unique, fold-unique, unfold-unique, write-unique, margin-unique, right-unique}
 use Rattle.fields.specs.declared.Answer.{Answer}
 use Rattle.fields.specs.Verdicts.{answered, leaving}
 use Rattle.fields.proofs.Told.{no-refusal, refusal-one, leaving-one}
@@ -14,6 +14,9 @@ use Rattle.questions.specs.declared.Measured.the-variants as measured
 use Rattle.questions.specs.declared.Truth.{Truth}
 use Rattle.questions.specs.declared.Truth.the-variants as truth
 use Rattle.questions.specs.Questions.{measuredOf, truthOf}
+use Rattle.text.specs.declared.Text.{Text}
+use Rattle.text.specs.Texts.{textIn}
+use Rattle.folds.specs.Folds.{TextFor}
 
 -- ---- functions that write
 
@@ -29,6 +32,11 @@ module _ (x y : Answer) (end fin : List ℕ) where
 
   pub write-one : (N : Numbers) (out : List ℕ) → IsWrite N out (leaving (answered x) end) → IsWrite N out (leaving (answered y) fin) → (x ≡ y) × (end ≡ fin)
   write-one N out p q = leaving-one x y end fin (write-unique N out _ _ p q)
+
+-- ---- the text by value
+
+pub text-one : (s : List ℕ) (x y : Text) → TextFor s x → TextFor s y → x ≡ y
+text-one s x y (b, p, e) (c, q, f) = e ∙ ap textIn (text-unique s b c p q) ∙ sym f
 
 -- ---- questions
 

@@ -7,12 +7,11 @@ use native.Mathlib.Omega.{arith}
 use lib.ListN.{length, drop, length-map}
 use Rattle.rules.specs.Table.{Table, nops, Accepted}
 use Rattle.rules.specs.Runs.{IsPeriod}
-use Rattle.rules.specs.Rows.{Reply, replyOf}
+use Rattle.rules.specs.Rows.{replyOf}
 use Rattle.rules.specs.Verdicts.{Verdict, accepted, refused, ROOM, onwards}
 use Rattle.rules.specs.Bytes.{replyBytes}
 use Rattle.rules.specs.Judge.{judge}
-use Rattle.rules.specs.Text.{replyText, textOf}
-use Rattle.rules.specs.Answers.{Written, put, written, Answers, Planned, bytesOf, IsPlan, IsFold}
+use Rattle.rules.specs.Answers.{Written, put, written, Answers, Planned, bytesOf, IsPlan}
 use Rattle.theory.specs.Tests.{periodOf}
 use Rattle.theory.proofs.Bytes.{reply-length}
 use Rattle.theory.proofs.Exists.{period-found}
@@ -24,10 +23,6 @@ use Rattle.fields.specs.RefusalLaws.{refusal-is}
 -- the reply's bytes at the table's period, or ROOM
 abbrev pub Plans : Table → List ℕ → Written → Type 0
 Plans T out w = (q : ℕ) × IsPeriod T q × (w ≡ put (replyBytes (replyOf T q)) out)
-
--- the reply's text at the table's period, or ROOM
-abbrev pub Folds : Table → List ℕ → Written → Type 0
-Folds T out w = (q : ℕ) × IsPeriod T q × (w ≡ put (replyText (replyOf T q)) out)
 
 -- "A reply has 5 + 7·operations bytes."
 reply-size : (T : Table) (q : ℕ) → length (replyBytes (replyOf T q)) ≡ 5 + 7 * nops T
@@ -69,25 +64,6 @@ plan-refused s out r e =
 pub plan-accepted : (s out : List ℕ) (T : Table) (w : Written) → judge s ≡ accepted T → Plans T out w → IsPlan s out w
 unfolding Answers bytesOf written onwards
 plan-accepted s out T w e (q, period, f) = (
-  accepted (replyOf T q),
-  subst⁻¹ (λ (u : Verdict Table). Answers Planned u (accepted (replyOf T q))) e (replyOf T q, (q, period, refl), refl),
-  f,
-)
-
--- the line of a refusal of the table is the text
-pub fold-refused : (s out : List ℕ) (r : Refusal) (w : Written) → judge s ≡ refusalOf r → w ≡ put (textOf (refusalOf r)) out → IsFold s out w
-unfolding Answers
-fold-refused s out r w e f =
-    let (n, a, b, x, y) = refusal-is {A = Reply} {B = Table} r in (
-      refused n a b,
-      subst⁻¹ (λ (u : Verdict Table). Answers Planned u (refused n a b)) (e ∙ y) refl,
-      f ∙ ap (λ (v : Verdict Reply). put (textOf v) out) x,
-    )
-
--- the text of an accepted table's reply is the text
-pub fold-accepted : (s out : List ℕ) (T : Table) (w : Written) → judge s ≡ accepted T → Folds T out w → IsFold s out w
-unfolding Answers textOf
-fold-accepted s out T w e (q, period, f) = (
   accepted (replyOf T q),
   subst⁻¹ (λ (u : Verdict Table). Answers Planned u (accepted (replyOf T q))) e (replyOf T q, (q, period, refl), refl),
   f,

@@ -4,13 +4,16 @@ ghost use Rattle.fields.specs.Verdicts.{answered, leaving};
 ghost use Rattle.table.specs.Tables.{tableOf, Good};
 ghost use Rattle.handed.specs.Handed.{numbers};
 ghost use Rattle.questions.specs.Questions.{measuredOf, truthOf};
-ghost use Rattle.planner.specs.Plans.{Plans, Folds};
+ghost use Rattle.folds.specs.Folds.{TextFor};
+ghost use Rattle.planner.specs.Plans.{Plans};
 use fields::Answer;
 use fields::Refusal;
 use fields::Verdict;
 use questions::Measured;
 use questions::Truth;
+use rows::Ticks;
 use table::Table;
+use text::Text;
 
 // ---- a table's bytes in, its reply's bytes out
 
@@ -24,7 +27,7 @@ fn plan_table(t: Table, out: &mut [u8]) -> Answer
         return Answer::Denied(Refusal::Room(needed));
     }
     let q = period::smallest(t);
-    replies::put_reply(out, t, q);
+    replies::put_reply(out, t, Ticks(q));
     Answer::Wrote(needed)
 }
 
@@ -42,25 +45,18 @@ pub fn plan(s: &[u8], out: &mut [u8]) -> Answer
 
 // ---- a table's bytes in, the text of its reply or of its refusal out
 
-// The text of an accepted table's reply, or ROOM.
-fn fold_table(t: Table, out: &mut [u8]) -> Answer
-    requires { ⌜ Good t ⌝ }
-    ensures { λ r. ⌜ Folds (tableOf t) (now (out .entry)) (leaving (answered r) (now (out .exit))) ⌝ }
+// What the program `fold` prints: the period and the rows, or the refusal's line.
+pub fn text(s: &[u8]) -> Text
+    ensures { λ r. ⌜ TextFor (now (s .entry)) r ⌝ }
 {
-    let q = period::smallest(t);
-    text::put_reply(out, t, q)
+    folds::text_of(s)
 }
 
-// What the program `fold` prints: the period and the rows, or the refusal's line. On ROOM every byte of the buffer stays.
+// The same into a lent buffer. On ROOM every byte of it stays.
 pub fn fold(s: &[u8], out: &mut [u8]) -> Answer
     ensures { λ r. ⌜ IsFold (now (s .entry)) (now (out .entry)) (leaving (answered r) (now (out .exit))) ⌝ }
 {
-    let judged = reading::read(s);
-    let verdict = judged.verdict;
-    match verdict {
-        Verdict::Refused(r) => text::put_refusal(out, r),
-        Verdict::Accepted => fold_table(judged.table, out),
-    }
+    folds::fold(s, out)
 }
 
 // ---- a reply back to starts, questions about a table, and a table from numbers

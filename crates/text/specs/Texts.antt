@@ -1,16 +1,12 @@
--- What a function that writes a piece of the text leaves.
+-- A text as the code holds it, by value.
 -- Assumes nothing.
-use Prim.Native.Nat.{ℕ, _+_}
-use mathlib.Core.Path.{_≡_}
-use mathlib.Core.List.{List, _++_}
+use Prim.Native.Nat.{ℕ}
+use mathlib.Core.List.{List}
 use lib.ListN.{length}
-use Rattle.rules.specs.Text.{decimal, newline}
-use Rattle.puts.specs.Puts.{stored}
+use Rattle.rules.specs.Text.{longestText}
+use Rattle.table.specs.Tables.{padded}
+use Rattle.text.specs.declared.Text.{Text}
 
--- from the buffer out, end with the bytes stored at a place, and n the place behind them
-abbrev pub Puts : List ℕ → List ℕ → ℕ → ℕ → List ℕ → Type 0
-Puts out end at n bytes = (end ≡ stored out at bytes) × (n ≡ at + length bytes)
-
--- three words, each with a number behind it, and the end of the line
-abbrev pub lineOf : List ℕ → ℕ → List ℕ → ℕ → List ℕ → ℕ → List ℕ
-lineOf u x v y w z = u ++ decimal x ++ (v ++ decimal y) ++ (w ++ decimal z) ++ newline
+-- the bytes of a text, with zeros behind them, and how many they are
+abbrev pub textIn : List ℕ → Text
+textIn bytes = record { bytes = padded longestText 0 bytes; len = length bytes }

@@ -64,17 +64,6 @@ put-refused bytes out n a b e = go (decLt (length out) (length bytes))
     go (yes h) = ap (λ (w : Written). w .buffer) (put-short bytes out h)
     go (no h) = never-refused (sym e ∙ ap (λ (w : Written). w .answer) (put-room bytes out (omega arith)))
 
--- as many bytes as are told stand in the buffer
-pub put-count : (bytes out : List ℕ) (w : Written) (n : ℕ) → w ≡ put bytes out → w .answer ≡ accepted n → n ≤ length (w .buffer)
-put-count bytes out w n e told = go (decLt (length out) (length bytes))
-  where
-    go : Dec (length out < length bytes) → n ≤ length (w .buffer)
-    go (yes h) = never-refused (sym (ap (λ (x : Written). x .answer) (e ∙ put-short bytes out h)) ∙ told)
-    go (no h) =
-        let room = e ∙ put-room bytes out (omega arith) in
-        let count : n ≡ length bytes = cc (told, ap (λ (x : Written). x .answer) room) in
-        rw room (omega (arith, length-append bytes (drop (length bytes) out)))
-
 -- demand 1: "A refusal gives its number and two figures .., and the reply buffer keeps each byte it had", whatever was to be written
 pub refusal-keeps : (v : Verdict (List ℕ)) (out : List ℕ) (n a b : ℕ) → written v out .answer ≡ refused n a b → written v out .buffer ≡ out
 unfolding written

@@ -249,32 +249,35 @@ rows-short d (r ∷ rs) i h each =
       rows-short d rs (suc i) (omega arith) (λ k g. each (suc k) (omega arith)),
     )
 
--- a reply opened, its lines closed
-reply-text : (T : Table) (q : ℕ) → replyText (replyOf T q) ≡ periodLine q ++ rowLines 0 (map (folded q) (T .ops))
+-- a reply's text opened, its lines closed
+pub reply-text : (T : Table) (q : ℕ) → replyText (replyOf T q) ≡ periodLine q ++ rowLines 0 (replyOf T q .rows)
 unfolding replyText replyOf
 reply-text T q = refl
 
 module _ (T : Table) (q : ℕ) (ok : Accepted T) where
   -- an operation starts before date 1000, and is folded to no later date and no higher index
-  row-small : (k : ℕ) → k < nops T → (folded q (op T k) .start .number < 1000) × (folded q (op T k) .fst .number < 1000)
+  pub row-small : (k : ℕ) → k < nops T → (folded q (op T k) .start .number < 1000) × (folded q (op T k) .fst .number < 1000)
   row-small k h =
       let start = op T k .start in
       let small : start < 1000 = omega (arith, ok .each k h .lasts, ok .each k h .fits, ok .len-high) in
       (omega arith, omega (arith, div-le-self start q))
 
+  lines-short : length (rowLines 0 (replyOf T q .rows)) ≤ 24 * nops T
+  unfolding replyOf
+  lines-short =
+      let count : length (map (folded q) (T .ops)) ≡ nops T = length-map (T .ops) (folded q) in
+      rw (← count)
+      (rows-short (folded q noOp) (map (folded q) (T .ops)) 0 (omega (arith, ok .ops-high))
+      (λ k g. rw (List·getD-map (folded q) (T .ops) k noOp) (row-small k (omega arith))))
+
   pub reply-longest : q ≤ T .len → length (replyText (replyOf T q)) ≤ longestText
   reply-longest h =
-      let count = length-map (T .ops) (folded q) in
-      let rows : length (rowLines 0 (map (folded q) (T .ops))) ≤ 24 * length (map (folded q) (T .ops)) =
-      rows-short (folded q noOp) (map (folded q) (T .ops)) 0 (omega (arith, ok .ops-high))
-      (λ k g. rw (List·getD-map (folded q) (T .ops) k noOp) (row-small k (omega arith)))
-      in
       omega (
         arith,
         ap length (reply-text T q),
-        length-append (periodLine q) (rowLines 0 (map (folded q) (T .ops))),
+        length-append (periodLine q) (rowLines 0 (replyOf T q .rows)),
         period-short q (omega (arith, ok .len-high)),
-        rows,
+        lines-short,
         ok .ops-high,
       )
 
