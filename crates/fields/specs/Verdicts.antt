@@ -25,7 +25,7 @@ refusalOf (Race i j) = refused RACE i j
 refusalOf (Room n) = refused ROOM n 0
 refusalOf (Ask place) = refused ASK place 0
 
--- a refusal in numbers
+-- an answer in numbers
 abbrev pub figuresOf : ℕ → ℕ → ℕ → Figures
 figuresOf number a b = record { number = number; a = a; b = b }
 

@@ -32,14 +32,14 @@ pub enum Answer {
     Denied(Refusal),
 }
 
-// A refusal in numbers.
+// An answer in numbers: that of the refusal, or 0, and two figures.
 pub struct Figures {
     pub number: u32,
     pub a: u64,
     pub b: u64,
 }
 
-fn numbered(number: u32, a: usize, b: usize) -> Figures
+pub fn numbered(number: u32, a: usize, b: usize) -> Figures
     ensures { λ f. ⌜ f ≡ figuresOf number a b ⌝ }
 {
     Figures {

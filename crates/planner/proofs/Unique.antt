@@ -4,16 +4,18 @@ use Prim.Native.Nat.{ℕ}
 use mathlib.Core.Path.{_≡_, sym, ap, _∙_}
 use mathlib.Core.List.{List}
 use Rattle.rules.specs.Judge.{Numbers}
-use Rattle.rules.specs.Answers.{IsPlan, IsFold, IsUnfold, IsWrite, IsMargin, IsRight}
-use Rattle.theory.proofs.Answering.{plan-unique, text-unique, fold-unique, unfold-unique, write-unique, margin-unique, right-unique}
+use Rattle.rules.specs.Answers.{IsPlan, IsFold, IsUnfold, IsWrite, IsMargin, IsPeriodOf, IsRight}
+use Rattle.theory.proofs.Answering.{plan-unique, text-unique, fold-unique, unfold-unique, write-unique, margin-unique, period-of-unique, right-unique}
 use Rattle.fields.specs.declared.Answer.{Answer}
 use Rattle.fields.specs.Verdicts.{answered, leaving}
-use Rattle.fields.proofs.Told.{no-refusal, refusal-one, leaving-one}
-use Rattle.questions.specs.declared.Measured.{Measured}
-use Rattle.questions.specs.declared.Measured.the-variants as measured
+use Rattle.fields.proofs.Told.{leaving-one}
+use Rattle.margins.specs.declared.Measured.{Measured}
+use Rattle.margins.specs.Margins.{measuredOf}
+use Rattle.margins.proofs.Unique.{measured-one}
 use Rattle.questions.specs.declared.Truth.{Truth}
-use Rattle.questions.specs.declared.Truth.the-variants as truth
-use Rattle.questions.specs.Questions.{measuredOf, truthOf}
+use Rattle.questions.specs.declared.Found.{Found}
+use Rattle.questions.specs.Questions.{truthOf, foundOf}
+use Rattle.questions.proofs.Unique.{truth-one, found-one}
 use Rattle.text.specs.declared.Text.{Text}
 use Rattle.text.specs.Texts.{textIn}
 use Rattle.folds.specs.Folds.{TextFor}
@@ -40,20 +42,11 @@ text-one s x y (b, p, e) (c, q, f) = e ∙ ap textIn (text-unique s b c p q) ∙
 
 -- ---- questions
 
-measured-one : (x y : Measured) → measuredOf x ≡ measuredOf y → x ≡ y
-measured-one (measured.Margin z) (measured.Margin w) e = let same : z ≡ w = cc in ap measured.Margin same
-measured-one (measured.Margin z) (measured.Denied r) e = no-refusal r e
-measured-one (measured.Denied r) (measured.Margin z) e = no-refusal r (sym e)
-measured-one (measured.Denied r) (measured.Denied s) e = ap measured.Denied (refusal-one r s e)
-
-truth-one : (x y : Truth) → truthOf x ≡ truthOf y → x ≡ y
-truth-one (truth.Is b) (truth.Is c) e = let same : b ≡ c = cc in ap truth.Is same
-truth-one (truth.Is b) (truth.Denied r) e = no-refusal r e
-truth-one (truth.Denied r) (truth.Is b) e = no-refusal r (sym e)
-truth-one (truth.Denied r) (truth.Denied s) e = ap truth.Denied (refusal-one r s e)
-
 pub margin-one : (x y : Measured) (s : List ℕ) (i j n q : ℕ) → IsMargin s i j n q (measuredOf x) → IsMargin s i j n q (measuredOf y) → x ≡ y
 margin-one x y s i j n q p r = measured-one x y (margin-unique s i j n q _ _ p r)
 
 pub right-one : (x y : Truth) (s : List ℕ) (q : ℕ) → IsRight s q (truthOf x) → IsRight s q (truthOf y) → x ≡ y
 right-one x y s q p r = truth-one x y (right-unique s q _ _ p r)
+
+pub period-one : (x y : Found) (s : List ℕ) → IsPeriodOf s (foundOf x) → IsPeriodOf s (foundOf y) → x ≡ y
+period-one x y s p q = found-one x y (period-of-unique s _ _ p q)

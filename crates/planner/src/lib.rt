@@ -1,46 +1,21 @@
 // The planner: the public functions. Each promise is a definition of `rules` about the answer, told in document 01's numbers.
-ghost use Rattle.rules.specs.Answers.{IsPlan, IsFold, IsUnfold, IsMargin, IsRight, IsWrite};
+ghost use Rattle.rules.specs.Answers.{IsPlan, IsFold, IsUnfold, IsMargin, IsPeriodOf, IsRight, IsWrite};
 ghost use Rattle.fields.specs.Verdicts.{answered, leaving};
-ghost use Rattle.table.specs.Tables.{tableOf, Good};
 ghost use Rattle.handed.specs.Handed.{numbers};
-ghost use Rattle.questions.specs.Questions.{measuredOf, truthOf};
+ghost use Rattle.questions.specs.Questions.{truthOf, foundOf};
+ghost use Rattle.margins.specs.Margins.{measuredOf};
 ghost use Rattle.folds.specs.Folds.{TextFor};
-ghost use Rattle.planner.specs.Plans.{Plans};
 use fields::Answer;
-use fields::Refusal;
-use fields::Verdict;
-use questions::Measured;
+use margins::Measured;
+use questions::Found;
 use questions::Truth;
-use rows::Ticks;
-use table::Table;
 use text::Text;
-
-// ---- a table's bytes in, its reply's bytes out
-
-// The reply to an accepted table, or ROOM.
-fn plan_table(t: Table, out: &mut [u8]) -> Answer
-    requires { ⌜ Good t ⌝ }
-    ensures { λ r. ⌜ Plans (tableOf t) (now (out .entry)) (leaving (answered r) (now (out .exit))) ⌝ }
-{
-    let needed = 5 + 7 * t.count;
-    if out.len() < needed {
-        return Answer::Denied(Refusal::Room(needed));
-    }
-    let q = period::smallest(t);
-    replies::put_reply(out, t, Ticks(q));
-    Answer::Wrote(needed)
-}
 
 // A table's reply: its period and rows, from the front of the buffer. On a refusal every byte of it stays.
 pub fn plan(s: &[u8], out: &mut [u8]) -> Answer
     ensures { λ r. ⌜ IsPlan (now (s .entry)) (now (out .entry)) (leaving (answered r) (now (out .exit))) ⌝ }
 {
-    let judged = reading::read(s);
-    let verdict = judged.verdict;
-    match verdict {
-        Verdict::Refused(r) => Answer::Denied(r),
-        Verdict::Accepted => plan_table(judged.table, out),
-    }
+    plans::plan(s, out)
 }
 
 // ---- a table's bytes in, the text of its reply or of its refusal out
@@ -72,7 +47,7 @@ pub fn unfold(s: &[u8], out: &mut [u8]) -> Answer
 pub fn margin(s: &[u8], i: u64, j: u64, n: u64, q: u64) -> Measured
     ensures { λ r. ⌜ IsMargin (now (s .entry)) i j n q (measuredOf r) ⌝ }
 {
-    questions::margin(s, i, j, n, q)
+    margins::margin(s, i, j, n, q)
 }
 
 // Whether q is a right period.
@@ -80,6 +55,13 @@ pub fn is_right(s: &[u8], q: u64) -> Truth
     ensures { λ r. ⌜ IsRight (now (s .entry)) q (truthOf r) ⌝ }
 {
     questions::is_right(s, q)
+}
+
+// The period: the smallest that is right.
+pub fn period_of(s: &[u8]) -> Found
+    ensures { λ r. ⌜ IsPeriodOf (now (s .entry)) (foundOf r) ⌝ }
+{
+    questions::period_of(s)
 }
 
 // The bytes of a table that is handed over as numbers. On a refusal every byte of the buffer stays.

@@ -1,122 +1,77 @@
-// Questions about a table's bytes: its period, whether a period is right, and the margin of two operations.
-ghost use mathlib.Core.Path.{_≡_};
-ghost use Prim.Native.Nat.{_<_, _≤_};
+// Questions about a table's bytes: whether a period is right, and the period.
 ghost use Rattle.rules.specs.Verdicts.{accepted, _then_};
-ghost use Rattle.rules.specs.Rows.{margin};
-ghost use Rattle.rules.specs.Runs.{IsPeriod};
-ghost use Rattle.rules.specs.Judge.{judge};
-ghost use Rattle.rules.specs.Answers.{Answers, marginTest, periodAsked, RightSaid, IsMargin, IsRight};
-ghost use Rattle.fields.specs.Verdicts.{answered};
-ghost use Rattle.table.specs.Tables.{tableOf, Good};
-ghost use Rattle.questions.specs.Questions.{measuredOf, truthOf, Short, gap};
-use fields::Answer;
+ghost use Rattle.rules.specs.Answers.{periodAsked, IsPeriodOf, IsRight};
+ghost use Rattle.theory.specs.Tests.{askedTable};
+ghost use Rattle.table.specs.Tables.{tableOf, Good, JudgedAs};
+ghost use Rattle.questions.specs.Questions.{truthOf, foundOf};
 use fields::Refusal;
 use fields::Verdict;
-use table::Op;
+use table::Judged;
 use table::Table;
-
-pub enum Measured {
-    Margin(i32),
-    Denied(Refusal),
-}
 
 pub enum Truth {
     Is(bool),
     Denied(Refusal),
 }
 
-// ---- the margin
-
-// n·q less what o ends after u starts, with one signed subtraction.
-fn measure(o: Op, u: Op, n: u32, q: u32) -> i32
-    requires { ⌜ (n ≤ 1000) × (q ≤ 1000) × Short (o .start) (o .dur) × (u .start ≤ 1000) ⌝ }
-    ensures { λ r. ⌜ r ≡ gap n q o u ⌝ }
-{
-    let later = n * q + u.start;
-    let end = table::end_of(o);
-    (later as i32) - (end as i32)
+pub enum Found {
+    Period(u32),
+    Denied(Refusal),
 }
 
-// The margin of operations i and j of an accepted table, or ASK.
-fn margin_of(t: Table, i: u64, j: u64, n: u64, q: u64) -> Measured
+// ---- a table and a period asked for
+
+// An accepted table, or ASK with the empty one.
+fn asked_of(t: Table, q: u64) -> Judged
     requires { ⌜ Good t ⌝ }
-    ensures { λ r. ⌜ measuredOf r ≡ (marginTest (tableOf t) i j n q then accepted (margin (tableOf t) i j n q)) ⌝ }
+    ensures { λ r. ⌜ JudgedAs (periodAsked (tableOf t) q 0 then accepted (tableOf t)) r ⌝ }
 {
-    let count = t.count as u64;
-    if count <= i {
-        return Measured::Denied(Refusal::Ask(0));
+    if !asks::in_range(q, t.len as u64) {
+        return Judged {
+            verdict: Verdict::Refused(Refusal::Ask(0)),
+            table: table::empty(),
+        };
     }
-    if count <= j {
-        return Measured::Denied(Refusal::Ask(1));
+    Judged {
+        verdict: Verdict::Accepted,
+        table: t,
     }
-    if n < 1 {
-        return Measured::Denied(Refusal::Ask(2));
-    }
-    if 1000 < n {
-        return Measured::Denied(Refusal::Ask(2));
-    }
-    if q < 1 {
-        return Measured::Denied(Refusal::Ask(3));
-    }
-    if (t.len as u64) < q {
-        return Measured::Denied(Refusal::Ask(3));
-    }
-    let a = i as usize;
-    let b = j as usize;
-    Measured::Margin(measure(t.ops[a], t.ops[b], n as u32, q as u32))
 }
 
-// The margin of operations i and j at distance n and period q.
-pub fn margin(s: &[u8], i: u64, j: u64, n: u64, q: u64) -> Measured
-    ensures { λ r. ⌜ IsMargin (now (s .entry)) i j n q (measuredOf r) ⌝ }
+// The table, where it is accepted and q is from 1 to its length.
+fn asked(s: &[u8], q: u64) -> Judged
+    ensures { λ r. ⌜ JudgedAs (askedTable (now (s .entry)) q) r ⌝ }
 {
     let judged = reading::read(s);
     let verdict = judged.verdict;
     match verdict {
-        Verdict::Refused(r) => Measured::Denied(r),
-        Verdict::Accepted => margin_of(judged.table, i, j, n, q),
+        Verdict::Refused(r) => judged,
+        Verdict::Accepted => asked_of(judged.table, q),
     }
-}
-
-// ---- is q right
-
-// Whether q is right for an accepted table, or ASK.
-fn right_of(t: Table, q: u64) -> Truth
-    requires { ⌜ Good t ⌝ }
-    ensures { λ r. ⌜ Answers (RightSaid q) (periodAsked (tableOf t) q 0 then accepted (tableOf t)) (truthOf r) ⌝ }
-{
-    let len = t.len as u64;
-    if q < 1 {
-        return Truth::Denied(Refusal::Ask(0));
-    }
-    if len < q {
-        return Truth::Denied(Refusal::Ask(0));
-    }
-    Truth::Is(period::is_right(t, q as u32))
 }
 
 // Whether q is a right period.
 pub fn is_right(s: &[u8], q: u64) -> Truth
     ensures { λ r. ⌜ IsRight (now (s .entry)) q (truthOf r) ⌝ }
 {
-    let judged = reading::read(s);
+    let judged = asked(s, q);
     let verdict = judged.verdict;
     match verdict {
         Verdict::Refused(r) => Truth::Denied(r),
-        Verdict::Accepted => right_of(judged.table, q),
+        Verdict::Accepted => Truth::Is(period::is_right(judged.table, q as u32)),
     }
 }
 
 // ---- the period
 
 // The smallest right period.
-pub fn period_of(s: &[u8]) -> Answer
-    ensures { λ r. ⌜ Answers IsPeriod (judge (now (s .entry))) (answered r) ⌝ }
+pub fn period_of(s: &[u8]) -> Found
+    ensures { λ r. ⌜ IsPeriodOf (now (s .entry)) (foundOf r) ⌝ }
 {
     let judged = reading::read(s);
     let verdict = judged.verdict;
     match verdict {
-        Verdict::Refused(r) => Answer::Denied(r),
-        Verdict::Accepted => Answer::Wrote(period::smallest(judged.table) as usize),
+        Verdict::Refused(r) => Found::Denied(r),
+        Verdict::Accepted => Found::Period(period::smallest(judged.table)),
     }
 }

@@ -192,7 +192,7 @@ pub right-unique : (s : List ℕ) (q : ℕ) (v w : Verdict Bool) → IsRight s q
 right-unique s q = answers-unique (RightSaid q) (said-unique q) (askedTable s q)
 
 -- a table that may be asked about q: accepted, and q from 1 to its length
-question : (s : List ℕ) (q : ℕ) (T : Table) → askedTable s q ≡ accepted T → Accepted T × (1 ≤ q) × (q ≤ T .len)
+pub question : (s : List ℕ) (q : ℕ) (T : Table) → askedTable s q ≡ accepted T → Accepted T × (1 ≤ q) × (q ≤ T .len)
 unfolding asked
 question s q T e =
     let (U, x, y) = onwards-first (judge s) (λ T. periodAsked T q 0 then accepted T) e in

@@ -1,14 +1,10 @@
 -- A refusal of the table is the answer; for an accepted one it is the smallest right period.
 -- Assumes nothing.
-use mathlib.Core.Path.{refl, subst⁻¹}
 use Rattle.rules.specs.Judge.{judge}
-use Rattle.rules.specs.Verdicts.{Verdict, accepted}
+use Rattle.rules.specs.Runs.{IsPeriod}
 use Rattle.theory.proofs.Judging.{judge-accepted}
 use Rattle.table.specs.JudgedLaws.{judged-accepted, judged-refused, took-good, took-table}
-use Rattle.rules.specs.Table.{Table}
-use Rattle.rules.specs.Runs.{IsPeriod}
-use Rattle.rules.specs.Answers.{Answers}
-use Rattle.questions.specs.QuestionLaws.{refused-answers}
+use Rattle.asks.specs.AskLaws.{refused-answers, accepted-answers}
 use borrow.Author.Needs.{needs}
 use Rattle.questions.proofs.period_of.Statement.{statement}
 use Rattle.questions.proofs.period_of.Tie as tie
@@ -28,9 +24,6 @@ smallest-requires c κs =
     let took = judged-accepted (judge _) (read .result) (read .ensures) (c .enum-told .given .1) in
     took-good took (judge-accepted _ (took .table) (took .said))
 
-cast-t7 : tie.Need-cast-t7
-cast-t7 c = search needs
-
 returns : tie.Need-returns
 returns c =
     let verdict = c .before in
@@ -38,23 +31,13 @@ returns c =
     refused-answers _ (verdict .verdict .given .0 .0) (judged-refused (judge _) (read .result) (verdict .verdict .given .0 .0) (read .ensures) (verdict .verdict .given .1))
 
 returns-2 : tie.Need-returns-2
-unfolding Answers
 returns-2 c =
     let told = c .before in
     let read = told .before .before .read in
     let took = judged-accepted (judge _) (read .result) (read .ensures) (told .enum-told .given .1) in
     let ok = judge-accepted _ (took .table) (took .said) in
-    let found : IsPeriod (took .table) (c .smallest .result) = rw (took-table took ok) at (c .smallest .ensures) in
-    subst⁻¹ (λ (u : Verdict Table). Answers IsPeriod u (accepted (c .smallest .result))) (took .said) (c .smallest .result, found, refl)
+    accepted-answers IsPeriod (took .said) (rw (took-table took ok) at (c .smallest .ensures))
 
 pub period-of-spec : {M : Type 1} → statement M
 period-of-spec =
-    tie.close
-    (tie.spec
-    read-requires
-    enum-known-verdict
-    enum-told
-    smallest-requires
-    cast-t7
-    returns
-    returns-2)
+    tie.close (tie.spec read-requires enum-known-verdict enum-told smallest-requires returns returns-2)
