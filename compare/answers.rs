@@ -3,7 +3,7 @@
 
 use crate::judge::{demand, judge, number_in, push_field, push_number, put};
 use crate::judge::{Fields, Refusal, Table, ASK, RANGE};
-use crate::runs::{period, right};
+use crate::walks::{period, right};
 
 /// "reads at most 4096 bytes of standard input and ignores more"
 const MOST_INPUT: usize = 4096;

@@ -4,7 +4,7 @@
 use crate::answers::{self, plan};
 use crate::hex::bytes_in;
 use crate::judge::{bytes_of, judge, Table};
-use crate::runs::{period, right_by_runs};
+use crate::{runs, walks};
 use std::io::{Read, Write};
 use std::path::Path;
 
@@ -54,7 +54,7 @@ fn promised(text: &str) -> String {
 
 /// The table's period is the smallest one at which every run is right, laid out one by one.
 fn is_found_by_runs(table: &Table) -> bool {
-    (1..=table.len).find(|q| right_by_runs(table, *q)) == Some(period(table))
+    runs::period(table) == walks::period(table)
 }
 
 /// The bytes fold as the comments say. A table is written as it is read, and the period of a

@@ -3,6 +3,7 @@
 
 use crate::answers::{plan, reply_bytes, Reply, Row};
 use crate::judge::{bytes_of, judge_pairs, number_in, numbers_of, Numbers, Op, Table};
+use crate::runs::enough_cycles;
 
 // ---- the seed -----------------------------------------------------------
 
@@ -288,17 +289,107 @@ fn either_table(seed: &mut Seed, shape: &Shape) -> Table {
     }
 }
 
-/// Accepted, so small that its runs can be laid out one by one.
-pub fn tiny(seed: &mut Seed) -> Table {
+// ---- tables whose runs can be laid out ----------------------------------
+
+/// One tick on a board of its own, at this date, in one mode; it uses no cell.
+fn lone_op(seed: &mut Seed, shape: &Shape, place: u64, start: u64) -> Op {
+    Op {
+        start,
+        dur: 1,
+        boards: 1 << place,
+        reads: 0,
+        writes: 0,
+        modes: 1 << seed.below(shape.modes),
+    }
+}
+
+/// An accepted table with a cell that is written late in one mode and read early in
+/// one mode, mostly with others between them; the other operations want little.
+fn far_table(seed: &mut Seed, shape: &Shape) -> Table {
+    let mut table = some_table(seed, shape);
+    table.follow = few_followers(seed, shape.modes);
+    let edge = seed.below(2).min(shape.p - 1);
+    for (place, op) in (0..).zip(&mut table.ops) {
+        let start = seed.below(shape.p);
+        *op = lone_op(seed, shape, place, start);
+        match place {
+            0 => (op.writes, op.start) = (1, shape.p - 1 - edge),
+            1 => (op.reads, op.start) = (1, edge),
+            _ => op.reads = some_set(seed, shape.cells, 1),
+        }
+    }
+    mend(seed, shape, &mut table);
+    table
+}
+
+/// An accepted table with a cell that is carried from each cycle to the next, and
+/// two or three operations on one board with gaps between them.
+fn gapped_table(seed: &mut Seed, shape: &Shape) -> Table {
+    let mut table = some_table(seed, shape);
+    for (place, op) in (0..).zip(&mut table.ops) {
+        let start = seed.below(shape.p);
+        *op = lone_op(seed, shape, place.min(2), start);
+        op.modes = full_set(shape.modes);
+        match place {
+            0 => op.writes = 1,
+            1 => (op.reads, op.start) = (1, start / 2),
+            _ => {}
+        }
+    }
+    mend(seed, shape, &mut table);
+    table
+}
+
+/// Any, or one of those that are rarely drawn otherwise.
+fn tiny_table(seed: &mut Seed) -> Table {
     let mut shape = tiny_shape(seed);
-    if seed.once_in(2) {
+    let kind = seed.below(9);
+    if kind < 3 {
         return good_table(seed, &shape);
     }
-    shape.modes = seed.between(2, 4);
-    shape.boards = shape.ops;
     shape.cells = seed.between(1, 2);
+    if kind < 5 {
+        (shape.p, shape.ops) = (seed.between(5, 8), seed.between(4, 5));
+        (shape.boards, shape.modes) = (3, seed.between(1, 2));
+        return gapped_table(seed, &shape);
+    }
+    shape.ops = shape.ops.max(2);
+    shape.boards = shape.ops;
+    shape.modes = seed.between(2, 4);
+    if kind == 5 {
+        return far_table(seed, &shape);
+    }
     carrying_table(seed, &shape)
 }
+
+/// How many runs of a table are laid out at most, with every mode a first one.
+const MOST_RUNS: u64 = 600;
+
+/// There are not too many runs of the length that is enough.
+fn has_few_runs(table: &Table) -> bool {
+    // the runs of so many cycles that begin in each mode
+    let mut runs = vec![1; table.modes as usize];
+    for _ in 1..enough_cycles(table) {
+        let after = |set: u64| {
+            (0..table.modes)
+                .map(|mode| (set >> mode & 1) * runs[mode as usize])
+                .sum()
+        };
+        runs = table.follow.iter().map(|set| after(*set)).collect();
+    }
+    runs.iter().sum::<u64>() <= MOST_RUNS
+}
+
+/// Accepted, so small that its runs can be laid out one by one.
+pub fn tiny(seed: &mut Seed) -> Table {
+    let mut table = tiny_table(seed);
+    while !has_few_runs(&table) {
+        table = tiny_table(seed);
+    }
+    table
+}
+
+// ---- accepted tables of all sizes ---------------------------------------
 
 /// Accepted and small.
 pub fn small(seed: &mut Seed) -> Table {

@@ -76,6 +76,11 @@ impl Op {
     pub fn end(&self) -> u64 {
         self.start + self.dur
     }
+
+    /// "an operation runs in it when that mode is in its set"
+    pub fn runs_in(&self, mode: u64) -> bool {
+        has(self.modes, mode)
+    }
 }
 
 /// A refusal whose second figure is 0.

@@ -2,7 +2,7 @@
 //!
 //!   library --count N --seed S   the static library's answers against the planner's
 //!   selftest                     the planner's own tests
-//!   cross --count N --seed S     all runs of tiny tables against walks
+//!   runs --count N --seed S      all runs of small tables, laid out, against the static library and against walks
 //!   stats --count N --seed S     how often each refusal is met
 //!   speed --count N --seed S     the time of the library's period search on largest tables, and of a simple planner's
 //!   bytes                        commented hexadecimal text on standard input to bytes
@@ -12,23 +12,28 @@
 
 mod against;
 mod answers;
-mod cross;
 mod examples;
 mod findings;
 mod generate;
 mod hex;
 mod judge;
+mod kinds;
+mod laid;
 mod library;
 mod runs;
 mod selftest;
 mod simple;
 mod speed;
 mod stats;
+mod walks;
 
 use generate::Seed;
 
 /// How many inputs are drawn for the library unless a count is given.
 const LIBRARY_COUNT: u64 = 200_000;
+
+/// How many tables have all their runs laid out unless a count is given.
+const RUNS_COUNT: u64 = 20_000;
 
 /// The count and the seed that the arguments name, if they name any; none where
 /// they are not understood.
@@ -53,7 +58,7 @@ fn drawn(name: &str, args: &[String]) -> bool {
     };
     match name {
         "library" => against::against(count.unwrap_or(LIBRARY_COUNT), seed),
-        "cross" => cross::cross_command(count.unwrap_or(1000), seed),
+        "runs" => laid::laid_command(count.unwrap_or(RUNS_COUNT), seed),
         "stats" => stats::stats_command(count.unwrap_or(1000), seed),
         "speed" => speed::speed_command(count.unwrap_or(200), seed),
         _ => usage(),
@@ -72,7 +77,7 @@ fn command(name: &str, args: &[String]) -> bool {
 }
 
 fn usage() -> bool {
-    println!("library | cross | stats | speed, each with --count N --seed S");
+    println!("library | runs | stats | speed, each with --count N --seed S");
     println!("selftest | bytes | text | examples FILE.. | bench FILE..");
     false
 }

@@ -7,7 +7,8 @@ use crate::generate::{self, Seed};
 use crate::hex::bytes_in;
 use crate::judge::{bytes_of, judge, judge_numbers, numbers_of, push_number, write_table};
 use crate::judge::{Numbers, Refusal};
-use crate::runs::{right, run_is_right, taken_from};
+use crate::runs::{taken_from, Run};
+use crate::walks::right;
 
 /// How many checks passed and failed.
 struct Tally {
@@ -133,7 +134,8 @@ fn untyped_turn(tally: &mut Tally) {
     let typed = from_hex(include_str!("../examples/analyzer-typed-turns.hex"));
     let every = from_hex(include_str!("../examples/analyzer-cold-to-warm.hex"));
     let table = judge(&every).expect("the example is accepted");
-    let passes = |q| typed_runs().iter().all(|run| run_is_right(&table, run, q));
+    let run_is_right = |modes: &[u64], q| Run::new(&table, modes).is_right(q);
+    let passes = |q| typed_runs().iter().all(|modes| run_is_right(modes, q));
     tally.check(
         "typed runs at 70",
         passes(70) && is_right(&typed, 70) == Ok(true),
@@ -143,9 +145,9 @@ fn untyped_turn(tally: &mut Tally) {
         !passes(69) && is_right(&typed, 69) == Ok(false),
     );
     let turn = [COLD, COLD, WARM];
-    tally.check("turn at 70", !run_is_right(&table, &turn, 70));
-    tally.check("turn at 99", !run_is_right(&table, &turn, 99));
-    tally.check("turn at 100", run_is_right(&table, &turn, 100));
+    tally.check("turn at 70", !run_is_right(&turn, 70));
+    tally.check("turn at 99", !run_is_right(&turn, 99));
+    tally.check("turn at 100", run_is_right(&turn, 100));
     let (compensate, read, temperature) = (2, 4, 1);
     for (q, cycle) in [(200, 1), (100, 1), (99, 0), (70, 0)] {
         let taken = taken_from(&table, &turn, (compensate, 2), temperature, q);
