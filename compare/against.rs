@@ -4,7 +4,7 @@
 //! To add a function: declare it in `library`, give it a line in FUNCTIONS of
 //! `findings`, and compare it in the draw that has its inputs (or in one more draw).
 
-use crate::answers::{self, is_right, reply_bytes, start_bytes, starts_of};
+use crate::answers::{self, is_right, reply_bytes, start_bytes, starts_of, LONGEST_REPLY};
 use crate::examples::K1;
 use crate::findings::{lent, memory_for, planned, Findings, Seen};
 use crate::generate::{self, Seed};
@@ -174,7 +174,7 @@ fn draw_table(table: &Table, most: usize, seed: &mut Seed, findings: &mut Findin
 /// What the library folds it unfolds: the starts that it gives for its own reply are
 /// those of the table.
 fn compare_there_and_back(table: &Table, seed: &mut Seed, findings: &mut Findings) {
-    let mut reply = [0; 229];
+    let mut reply = [0; LONGEST_REPLY];
     let said = library::plan(&mut bytes_of(table), &mut reply);
     let count = reply.len().min(said.a as usize);
     let unfold = Writing {

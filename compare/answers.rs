@@ -2,11 +2,22 @@
 //! "Numbers of refusal", "The program").
 
 use crate::judge::{demand, judge, number_in, push_field, push_number, put};
-use crate::judge::{Fields, Refusal, Table, ASK, RANGE};
+use crate::judge::{Fields, Refusal, Table, ASK, MOST_OPS, RANGE};
 use crate::walks::{period, right};
 
 /// "reads at most 4096 bytes of standard input and ignores more"
 const MOST_INPUT: usize = 4096;
+
+/// "The longest table has 818 bytes."
+pub const LONGEST_TABLE: usize = 818;
+
+/// "A reply has 5 + 7·operations bytes", the starts "2 bytes each".
+pub const LONGEST_REPLY: usize = 5 + 7 * MOST_OPS;
+pub const LONGEST_STARTS: usize = 2 * MOST_OPS;
+
+/// No text has more bytes: the lines `period 1000` and `op 31 start 999 fst 999`
+/// have 12 and 24.
+pub const LONGEST_TEXT: usize = 12 + 24 * MOST_OPS;
 
 /// One row of a folded table.
 #[derive(Clone, Copy, Debug, PartialEq, Eq)]

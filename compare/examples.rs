@@ -17,7 +17,7 @@ const TINY: u64 = 10;
 // ---- standard input to standard output ----------------------------------
 
 /// All of standard input.
-fn input() -> Vec<u8> {
+pub fn input() -> Vec<u8> {
     let mut bytes = Vec::new();
     std::io::stdin()
         .read_to_end(&mut bytes)

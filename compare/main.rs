@@ -9,9 +9,11 @@
 //!   text                         bytes on standard input to what the program fold prints for them
 //!   examples FILE..              files of commented hexadecimal text: each folds as its comments say
 //!   bench FILE..                 files of bytes to what the program bench prints for them
+//!   bytewise PROGRAM ARGUMENT..  a program with the bytes on standard input, which it reads one at a time
 
 mod against;
 mod answers;
+mod bytewise;
 mod examples;
 mod findings;
 mod generate;
@@ -72,13 +74,16 @@ fn command(name: &str, args: &[String]) -> bool {
         ("text", 0) => examples::text_command(),
         ("examples", _) => examples::examples_command(args),
         ("bench", _) => examples::bench_command(args),
+        ("bytewise", _) => bytewise::bytewise_command(args),
         _ => drawn(name, args),
     }
 }
 
 fn usage() -> bool {
     println!("library | runs | stats | speed, each with --count N --seed S");
-    println!("selftest | bytes | text | examples FILE.. | bench FILE..");
+    println!(
+        "selftest | bytes | text | examples FILE.. | bench FILE.. | bytewise PROGRAM ARGUMENT.."
+    );
     false
 }
 

@@ -2,6 +2,7 @@
 //! What the tables of `examples/` fold to stands in their comments and is checked there.
 
 use crate::answers::{is_right, margin, plan, start_bytes, text, unfold};
+use crate::answers::{LONGEST_REPLY, LONGEST_STARTS, LONGEST_TABLE, LONGEST_TEXT};
 use crate::examples::K1;
 use crate::generate::{self, Seed};
 use crate::hex::bytes_in;
@@ -112,6 +113,46 @@ fn margins(tally: &mut Tally) {
     let bytes = bytes_of(&generate::widest());
     tally.check("least", margin(&bytes, 0, 1, 1, 1) == Ok(-999));
     tally.check("most", margin(&bytes, 1, 2, 1000, 1000) == Ok(1_000_998));
+}
+
+// ---- the largest table --------------------------------------------------
+
+/// The sizes that are named in the header.
+fn sizes(tally: &mut Tally) {
+    let header = include_str!("../include/trevozhil.h");
+    for (name, size) in [
+        ("TABLE", LONGEST_TABLE),
+        ("REPLY", LONGEST_REPLY),
+        ("STARTS", LONGEST_STARTS),
+        ("TEXT", LONGEST_TEXT),
+    ] {
+        let line = format!("#define TREVOZHIL_LONGEST_{} {}", name, size);
+        tally.check(&line, header.lines().any(|named| named == line));
+    }
+}
+
+/// The example has every count at its highest, and its last operation decides.
+fn largest_example(tally: &mut Tally) {
+    let bytes = from_hex(include_str!("../examples/largest.hex"));
+    tally.check("largest", bytes.len() == LONGEST_TABLE);
+    let table = judge(&bytes).expect("the example is accepted");
+    let counts = (table.len, table.boards, table.cells, table.modes);
+    tally.check("counts", counts == (1000, 16, 32, 32));
+    tally.check("largest at 198", text(&bytes).starts_with("period 198\n"));
+    let fewer = &bytes[..LONGEST_TABLE - 21];
+    tally.check("without the last", text(fewer).starts_with("period 185\n"));
+}
+
+/// Nothing is longer than the sizes say.
+fn within_sizes(tally: &mut Tally, seed: &mut Seed) {
+    let bytes = bytes_of(&generate::largest(seed));
+    tally.check("table's size", bytes.len() <= LONGEST_TABLE);
+    tally.check("text's size", text(&bytes).len() <= LONGEST_TEXT);
+    let (mut reply, mut starts) = ([0; LONGEST_REPLY], [0; LONGEST_STARTS]);
+    let planned = plan(&bytes, &mut reply);
+    tally.check("reply's size", planned.is_ok());
+    let reply = &reply[..planned.unwrap_or(0)];
+    tally.check("starts' size", unfold(reply, &mut starts).is_ok());
 }
 
 // ---- the turn that nobody typed -----------------------------------------
@@ -241,7 +282,10 @@ fn points_of_reach(tally: &mut Tally) {
         table = generate::largest(&mut seed);
     }
     let longest = bytes_of(&table);
-    tally.check("11 length", longest.len() == 818 && judge(&longest).is_ok());
+    tally.check(
+        "11 length",
+        longest.len() == LONGEST_TABLE && judge(&longest).is_ok(),
+    );
     tally.refused("11", &joined(&longest, "04 00"), (1, 818, 0));
     tally.refused("11", &joined(&longest, "04 00 12"), (5, 818, 0));
     tally.refused("11", &joined(&longest, "00 00 12"), (2, 818, 0));
@@ -477,6 +521,8 @@ fn selftest() -> Tally {
         bench_k1,
         bench_k4,
         margins,
+        sizes,
+        largest_example,
         untyped_turn,
         points_of_order,
         points_of_size,
@@ -495,6 +541,9 @@ fn selftest() -> Tally {
         round_trips(&mut tally, &mut seed);
         as_if_written(&mut tally, &mut seed);
         keeps_bytes(&mut tally, &mut seed);
+    }
+    for _ in 0..50 {
+        within_sizes(&mut tally, &mut seed);
     }
     tally
 }

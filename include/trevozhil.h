@@ -55,8 +55,8 @@ extern "C" {
 /* The starts of the most operations have this many bytes; each has 2. */
 #define TREVOZHIL_LONGEST_STARTS 64
 
-/* No text of trevozhil_fold has more bytes than this. */
-#define TREVOZHIL_TEXT_ROOM 780
+/* No text has more bytes than this: 12 for the line of the period and 24 for each operation. */
+#define TREVOZHIL_LONGEST_TEXT 780
 
 /*
  * Judges a table's bytes: the s_len bytes at s.
@@ -131,8 +131,10 @@ uint32_t trevozhil_margin(const uint8_t *s, size_t s_len, uint64_t i, uint64_t j
  * Writes to out, which has room for out_len bytes, the text that the program fold prints for a table's bytes: the line
  * `period q` and a line `op i start s fst f` for each operation, or the line `refused n a b`. Each line ends with a
  * line feed, and no byte 0 follows.
- * Answers 0 where the text is written, that of a refused table too, or ROOM. Where it answers 0 the first *a bytes of
- * out are the text, and the others are as they were. Where it answers ROOM, every byte of out is as it was.
+ * A refusal of the table is told inside the text: the function then answers 0, and the text is the line `refused n a b`
+ * with the number and the two figures of that refusal. The only refusal that it answers is ROOM, which
+ * TREVOZHIL_LONGEST_TEXT bytes rule out. Where it answers 0 the first *a bytes of out are the text, and the others are
+ * as they were. Where it answers ROOM, every byte of out is as it was.
  */
 uint32_t trevozhil_fold(const uint8_t *s, size_t s_len, uint8_t *out, size_t out_len, uint64_t *a, uint64_t *b);
 

@@ -1,16 +1,16 @@
 /*
- * Folds the table in a file, or on standard input where no file is named. Prints the period and a line for each
- * operation, unfolds the reply again, and says whether the table's starts came back; or prints one line
- * `refused n a b`.
+ * Folds the table in a file, or on standard input where no file is named. Prints the text of the program fold: the
+ * period and a line for each operation, or one line `refused n a b`. Where the table is accepted, it reads the rows of
+ * the reply, unfolds the reply again, and says whether the table's starts came back from both.
  */
-#include <inttypes.h>
 #include <stdio.h>
 #include <string.h>
 
 #include "trevozhil.h"
 
-/* No answer depends on bytes past 821. */
-static uint8_t table[4096];
+/* No answer depends on more than three bytes behind the longest table. */
+static uint8_t table[TREVOZHIL_LONGEST_TABLE + 3];
+static uint8_t text[TREVOZHIL_LONGEST_TEXT];
 static uint8_t reply[TREVOZHIL_LONGEST_REPLY];
 static uint8_t starts[TREVOZHIL_LONGEST_STARTS];
 
@@ -19,41 +19,39 @@ static unsigned number_at(const uint8_t *bytes) {
     return bytes[0] * 256u + bytes[1];
 }
 
-/* The period is in the first field; each later field of 7 bytes is an operation's row. */
-static void print_reply(uint64_t length) {
-    printf("period %u\n", number_at(reply + 3));
-    for (uint64_t i = 0; 5 + 7 * i < length; i++) {
-        const uint8_t *row = reply + 5 + 7 * i;
-        printf("op %" PRIu64 " start %u fst %u\n", i, number_at(row + 3), number_at(row + 5));
-    }
+/*
+ * The start that row i of the reply came from. The period is in the reply's first field, of 5 bytes; each later field
+ * has 7 bytes and is a row: the folded start, and the number of periods before it.
+ */
+static unsigned start_of_row(size_t i) {
+    const uint8_t *row = reply + 5 + 7 * i;
+    return number_at(row + 5) * number_at(reply + 3) + number_at(row + 3);
 }
 
 /*
- * Whether so many bytes of starts are those of an accepted table of so many bytes. Its operations come after the field
- * of the turns, which is at 11; each has 21 bytes, of which the start is the first number.
+ * Whether so many bytes of starts, and the rows, are those of an accepted table of so many bytes. Its operations come
+ * after the field of the turns, which is at 11; each has 21 bytes, of which the start is the first number.
  */
 static int came_back(uint64_t starts_length, size_t table_length) {
-    const uint8_t *place = starts;
+    size_t i = 0;
     for (size_t at = 11 + 3 + number_at(table + 12); at < table_length; at += 21) {
-        if (memcmp(place, table + at + 3, 2) != 0) {
+        if (memcmp(starts + 2 * i, table + at + 3, 2) != 0 || start_of_row(i) != number_at(table + at + 3)) {
             return 0;
         }
-        place += 2;
+        i++;
     }
-    return place == starts + starts_length;
+    return 2 * i == starts_length;
 }
 
 static void fold(size_t length) {
     uint64_t a, b;
-    uint32_t number = trevozhil_plan(table, length, reply, sizeof reply, &a, &b);
-    if (number == 0) {
-        print_reply(a);
-        number = trevozhil_unfold(reply, a, starts, sizeof starts, &a, &b);
+    if (trevozhil_fold(table, length, text, sizeof text, &a, &b) == 0) {
+        fwrite(text, 1, a, stdout);
     }
-    if (number != 0) {
-        printf("refused %" PRIu32 " %" PRIu64 " %" PRIu64 "\n", number, a, b);
-    } else {
-        puts(came_back(a, length) ? "the starts came back" : "the starts did not come back");
+    if (trevozhil_plan(table, length, reply, sizeof reply, &a, &b) == 0) {
+        uint32_t number = trevozhil_unfold(reply, a, starts, sizeof starts, &a, &b);
+        int good = number == 0 && came_back(a, length);
+        puts(good ? "the starts came back" : "the starts did not come back");
     }
 }
 

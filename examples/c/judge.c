@@ -7,8 +7,8 @@
 
 #include "trevozhil.h"
 
-/* No verdict depends on bytes past 821. */
-static uint8_t table[4096];
+/* No verdict depends on more than three bytes behind the longest table. */
+static uint8_t table[TREVOZHIL_LONGEST_TABLE + 3];
 
 int main(int argc, char **argv) {
     FILE *input = argc > 1 ? fopen(argv[1], "rb") : stdin;

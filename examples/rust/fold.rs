@@ -1,24 +1,28 @@
-//! Folds the table in a file, or on standard input where no file is named. Prints the period and a
-//! line for each operation, unfolds the reply again, and says whether the table's starts came back;
-//! or prints one line `refused n a b`.
+//! Folds the table in a file, or on standard input where no file is named. Prints the text of the
+//! program fold: the period and a line for each operation, or one line `refused n a b`. Where the
+//! table is accepted, it reads the rows of the reply, unfolds the reply again, and says whether the
+//! table's starts came back from both.
 
-use std::io::Read;
+use std::io::{Read, Write};
+
+/// No text has more bytes than this; replies and starts are shorter.
+const TREVOZHIL_LONGEST_TEXT: usize = 780;
 
 // Each writes the bytes that it answers to out, and 0 or the number of a refusal is what it returns:
 // include/trevozhil.h says it all.
 #[rustfmt::skip]
 extern "C" {
+    fn trevozhil_fold(s: *const u8, s_len: usize, out: *mut u8, out_len: usize, a: *mut u64, b: *mut u64) -> u32;
     fn trevozhil_plan(s: *const u8, s_len: usize, out: *mut u8, out_len: usize, a: *mut u64, b: *mut u64) -> u32;
     fn trevozhil_unfold(s: *const u8, s_len: usize, out: *mut u8, out_len: usize, a: *mut u64, b: *mut u64) -> u32;
 }
 
-/// Either of the two.
+/// One of the three.
 type Writing = unsafe extern "C" fn(*const u8, usize, *mut u8, usize, *mut u64, *mut u64) -> u32;
 
-/// The bytes that a function writes for these, or its refusal: the number and two figures.
-fn written(function: Writing, bytes: &[u8]) -> Result<Vec<u8>, (u32, u64, u64)> {
-    // room for the longest reply, which has 229 bytes
-    let mut out = vec![0; 229];
+/// The bytes that a function writes for these; none where it refuses them.
+fn written(function: Writing, bytes: &[u8]) -> Option<Vec<u8>> {
+    let mut out = vec![0; TREVOZHIL_LONGEST_TEXT];
     let (mut a, mut b) = (0, 0);
     // each pointer goes with the length of what it comes from, and no two of them meet
     let number = unsafe {
@@ -31,11 +35,8 @@ fn written(function: Writing, bytes: &[u8]) -> Result<Vec<u8>, (u32, u64, u64)> 
             &mut b,
         )
     };
-    if number != 0 {
-        return Err((number, a, b));
-    }
     out.truncate(a as usize);
-    Ok(out)
+    (number == 0).then_some(out)
 }
 
 /// The number in the two bytes at a place, the most significant first.
@@ -43,17 +44,13 @@ fn number_at(bytes: &[u8], place: usize) -> u16 {
     u16::from_be_bytes([bytes[place], bytes[place + 1]])
 }
 
-/// The period is in the first field; each later field of 7 bytes is an operation's row.
-fn print_reply(reply: &[u8]) {
-    println!("period {}", number_at(reply, 3));
-    for (i, row) in reply[5..].chunks(7).enumerate() {
-        println!(
-            "op {} start {} fst {}",
-            i,
-            number_at(row, 3),
-            number_at(row, 5)
-        );
-    }
+/// The starts that the rows of a reply came from. The period is in its first field, of 5 bytes; each
+/// later field has 7 bytes and is a row: the folded start, and the number of periods before it.
+fn starts_of_rows(reply: &[u8]) -> Vec<u8> {
+    let period = number_at(reply, 3);
+    let rows = reply[5..].chunks(7);
+    rows.flat_map(|row| (number_at(row, 5) * period + number_at(row, 3)).to_be_bytes())
+        .collect()
 }
 
 /// The starts of an accepted table. Its operations come after the field of the turns, which is at
@@ -66,18 +63,16 @@ fn starts_in(table: &[u8]) -> Vec<u8> {
         .collect()
 }
 
-fn fold(table: &[u8]) -> Result<(), (u32, u64, u64)> {
-    let reply = written(trevozhil_plan, table)?;
-    print_reply(&reply);
-    let same = written(trevozhil_unfold, &reply)? == starts_in(table);
-    println!(
-        "the starts {}",
-        if same {
-            "came back"
-        } else {
-            "did not come back"
-        }
-    );
+fn fold(table: &[u8]) -> std::io::Result<()> {
+    let text = written(trevozhil_fold, table).unwrap_or_default();
+    std::io::stdout().write_all(&text)?;
+    if let Some(reply) = written(trevozhil_plan, table) {
+        let starts = starts_in(table);
+        let unfolded = written(trevozhil_unfold, &reply);
+        let good = unfolded.as_ref() == Some(&starts) && starts_of_rows(&reply) == starts;
+        let words = if good { "came" } else { "did not come" };
+        println!("the starts {} back", words);
+    }
     Ok(())
 }
 
@@ -87,8 +82,5 @@ fn main() -> std::io::Result<()> {
         Some(file) => std::fs::File::open(file)?.read_to_end(&mut table)?,
         None => std::io::stdin().read_to_end(&mut table)?,
     };
-    if let Err((number, a, b)) = fold(&table) {
-        println!("refused {} {} {}", number, a, b);
-    }
-    Ok(())
+    fold(&table)
 }

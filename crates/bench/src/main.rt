@@ -1,5 +1,6 @@
-// Document 01's cases, the papers' own examples and the analyzer's tables: each file of data/ is read, and its name and the text that
-// `planner::fold` makes of it are printed. Then K1 into 11 and into 12 bytes. What is expected is what the independent planner prints.
+// Document 01's cases, the papers' own examples, the analyzers' tables and the largest table: each file of data/ is read, and its
+// name and the text that `planner::fold` makes of it are printed. Then K1 into 11 and into 12 bytes. What is expected is what the
+// independent planner prints.
 use fields::Answer;
 use libc::STDOUT_FILENO;
 
@@ -51,7 +52,7 @@ fn unstarred() {
     one(b"k01-33-times");
 }
 
-// ---- the papers, and the analyzer
+// ---- the papers, the analyzers, and the largest table
 
 fn papers() {
     one(b"fig-4");
@@ -69,6 +70,10 @@ fn analyzers() {
     one(b"analyzer-cold-to-warm");
     one(b"analyzer-check-reading");
     one(b"analyzer-rinse");
+}
+
+fn station() {
+    one(b"largest");
 }
 
 // ---- K1 into few bytes
@@ -107,5 +112,6 @@ fn main() {
     unstarred();
     papers();
     analyzers();
+    station();
     k1_into_few();
 }
