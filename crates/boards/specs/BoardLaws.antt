@@ -21,7 +21,8 @@ use Rattle.table.specs.Tables.{tableOf, blankOp, Good}
 use Rattle.table.specs.declared.Table.{Table}
 use Rattle.turns.specs.Turns.{singles, rowAfter, blockFrom}
 use Rattle.turns.specs.TurnLaws.{good-step, rows-same, block-row, rows-add, via-row}
-use Rattle.boards.specs.Boards.{laps, pairBad, shiftFine, distanceFine}
+use Rattle.laps.specs.Laps.{laps}
+use Rattle.boards.specs.Boards.{pairBad, shiftFine, distanceFine}
 use Rattle.boards.specs.AllLaws.{all-says, all-same, each-rest, all-rest, all-join}
 use Rattle.table.specs.TableLaws.{op-at}
 

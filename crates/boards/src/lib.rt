@@ -2,45 +2,11 @@
 ghost use mathlib.Core.Path.{_≡_};
 ghost use Prim.Native.Nat.{_+_, _<_, _≤_};
 ghost use Rattle.rules.specs.Sets.{shares};
-ghost use Rattle.rules.specs.Table.{op};
-ghost use Rattle.theory.specs.Tests.{all, step, modesOf, boardsFine};
-ghost use Rattle.table.specs.Tables.{opOf, tableOf, Good};
+ghost use Rattle.theory.specs.Tests.{all, step, boardsFine};
+ghost use Rattle.table.specs.Tables.{tableOf, Good};
 ghost use Rattle.turns.specs.Turns.{singles, rowAfter, blockFrom};
-ghost use Rattle.boards.specs.Boards.{laps, shiftFine, distanceFine};
-use table::Op;
+ghost use Rattle.boards.specs.Boards.{shiftFine, distanceFine};
 use table::Table;
-
-// Operation u, shifted by so many ticks, wants a board while o holds it.
-fn lap(o: Op, u: Op, shift: u32) -> bool
-    ensures { λ r. ⌜ r ≡ laps (opOf o) shift (opOf u) ⌝ }
-{
-    if !sets::meets(o.boards, u.boards) {
-        return false;
-    }
-    if table::held_to(u) + shift as u64 <= o.start as u64 {
-        return false;
-    }
-    u.start as u64 + (shift as u64) < table::held_to(o)
-}
-
-// The modes of all the operations that want a board of operation i when they are shifted.
-fn lapped(t: Table, i: usize, shift: u32) -> u32
-    requires { ⌜ Good t × (i < t .count) ⌝ }
-    ensures { λ r. ⌜ r ≡ modesOf (laps (op (tableOf t) i) shift) (tableOf t .ops) ⌝ }
-{
-    let n = t.count;
-    let o = t.ops[i];
-    let mut modes: u32 = 0;
-    let mut j: usize = 0;
-    while j < n {
-        let u = t.ops[j];
-        if lap(o, u, shift) {
-            modes = modes | u.modes;
-        }
-        j += 1;
-    }
-    modes
-}
 
 // Some mode of `to` can stand as many turns after a mode of `from` as the row says. Mostly `to` is empty, and no turn has to be made.
 fn can_follow(row: [u32; 32], from: u32, to: u32) -> bool
@@ -61,7 +27,7 @@ fn distance_clear(t: Table, row: [u32; 32], reached: u32, shift: u32) -> bool
     let mut i: usize = 0;
     while i < n {
         let o = t.ops[i];
-        if can_follow(row, reached & o.modes, lapped(t, i, shift)) {
+        if can_follow(row, reached & o.modes, laps::lapped(t, i, shift)) {
             return false;
         }
         i += 1;

@@ -6,10 +6,11 @@ use native.Mathlib.Omega.{arith}
 use borrow.Author.Needs.{needs}
 use Rattle.rules.specs.Table.{nops}
 use Rattle.table.specs.Tables.{tableOf}
-use Rattle.values.specs.Bounds.{Raised, Each, WriterFine}
-use Rattle.values.specs.RaiseLaws.{raised-up, raised-to, each-none, each-more}
+use Rattle.readers.specs.Readers.{Raised, Each}
+use Rattle.values.specs.Bounds.{WriterFine}
+use Rattle.readers.specs.RaiseLaws.{raised-up, raised-to, each-none, each-more}
 use Rattle.table.specs.TableLaws.{good-count, good-few}
-use Rattle.values.specs.WriteLaws.{within-writers}
+use Rattle.cells.specs.WriteLaws.{within-writers}
 use Rattle.values.specs.BoundLaws.{cell-late}
 use Rattle.values.proofs.ask_cell.Statement.{statement}
 use Rattle.values.proofs.ask_cell.Tie as tie

@@ -12,9 +12,9 @@ use Rattle.theory.specs.Tests.{lastIn}
 use Rattle.theory.proofs.Says.{clash-bool}
 use Rattle.table.specs.Tables.{tableOf}
 use Rattle.values.specs.Bounds.{WriterFine}
-use Rattle.values.specs.RaiseLaws.{raised-not, raised-as}
+use Rattle.readers.specs.RaiseLaws.{raised-not, raised-as}
 use Rattle.table.specs.TableLaws.{good-few, op-at, good-op}
-use Rattle.values.specs.WriteLaws.{within-last}
+use Rattle.cells.specs.WriteLaws.{within-last}
 use Rattle.values.proofs.ask_writer.Statement.{statement}
 use Rattle.values.proofs.ask_writer.Tie as tie
 
