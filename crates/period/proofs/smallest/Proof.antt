@@ -1,6 +1,6 @@
 -- The search goes up from the bound of the values and passes no period that is right; it ends at the length at the latest.
 -- Assumes nothing.
-use Prim.Native.Nat.{_-_}
+use Prim.Native.Nat.{_+_, _-_}
 use mathlib.Core.Path.{_≡_, sym, _∙_}
 use mathlib.Core.Bool.{true, false}
 use native.Mathlib.Omega.{arith}
@@ -15,7 +15,7 @@ abbrev Inv-loop : tie.InvT-loop
 Inv-loop t reached first q₀ q = Passed (tableOf t) reached q₀ q
 
 abbrev μ-loop : tie.MeasureT-loop
-μ-loop t reached first q₀ q = t .len - q
+μ-loop t reached first q₀ q = t .len + 1 - q
 
 reached-requires : tie.Need-reached-requires Inv-loop μ-loop
 reached-requires c κs = search needs
@@ -46,29 +46,10 @@ boards-right-requires c κs =
 add-q : tie.Need-add-q Inv-loop μ-loop
 add-q c =
     let l = c .before .before in
-    let v = l .before in
-    let r = v .before .before in
-    let s = r .before in
-    let wrong : boardsFine (tableOf (s .args .t)) (r .reached .result) (l .loop .q) ≡ false = sym (c .before .boards-right .ensures) ∙ c .if1 .left in
-    omega (arith, passed-below (tableOf (s .args .t)) (s .pre .accepted) (r .reached .result) (r .reached .ensures) (v .values-bound .result) (l .loop .q) (v .values-bound .ensures) (l .loop .inv) wrong)
+    omega (arith, l .loop .inv .high, l .before .before .before .before .pre .accepted .len-high)
 
 loop-less : tie.Need-loop-less Inv-loop μ-loop
-loop-less c =
-    let l = c .before .before in
-    let v = l .before in
-    let r = v .before .before in
-    let s = r .before in
-    let wrong : boardsFine (tableOf (s .args .t)) (r .reached .result) (l .loop .q) ≡ false = sym (c .before .boards-right .ensures) ∙ c .if1 .left in
-    omega (arith, passed-below (tableOf (s .args .t)) (s .pre .accepted) (r .reached .result) (r .reached .ensures) (v .values-bound .result) (l .loop .q) (v .values-bound .ensures) (l .loop .inv) wrong)
-
-loop-again : tie.Need-loop-again Inv-loop μ-loop
-loop-again c =
-    let l = c .before .before in
-    let v = l .before in
-    let r = v .before .before in
-    let s = r .before in
-    let wrong : boardsFine (tableOf (s .args .t)) (r .reached .result) (l .loop .q) ≡ false = sym (c .before .boards-right .ensures) ∙ c .if1 .left in
-    passed-more (tableOf (s .args .t)) (s .pre .accepted) (r .reached .result) (r .reached .ensures) (v .values-bound .result) (l .loop .q) (v .values-bound .ensures) (l .loop .inv) wrong
+loop-less c = omega (arith, c .before .before .loop .inv .high)
 
 returns : tie.Need-returns Inv-loop μ-loop
 returns c =
@@ -78,6 +59,15 @@ returns c =
     let s = r .before in
     let fine : boardsFine (tableOf (s .args .t)) (r .reached .result) (l .loop .q) ≡ true = sym (c .before .boards-right .ensures) ∙ c .if1 .taken in
     passed-found (tableOf (s .args .t)) (s .pre .accepted) (r .reached .result) (r .reached .ensures) (v .values-bound .result) (l .loop .q) (v .values-bound .ensures) (l .loop .inv) fine
+
+loop-again : tie.Need-loop-again Inv-loop μ-loop
+loop-again c =
+    let l = c .before .before in
+    let v = l .before in
+    let r = v .before .before in
+    let s = r .before in
+    let wrong : boardsFine (tableOf (s .args .t)) (r .reached .result) (l .loop .q) ≡ false = sym (c .before .boards-right .ensures) ∙ c .if1 .left in
+    passed-more (tableOf (s .args .t)) (s .pre .accepted) (r .reached .result) (r .reached .ensures) (v .values-bound .result) (l .loop .q) (v .values-bound .ensures) (l .loop .inv) wrong
 
 pub smallest-spec : {M : Type 1} → statement M
 smallest-spec =
