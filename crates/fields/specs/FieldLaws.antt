@@ -81,7 +81,7 @@ ranged-no ok at h = refuses _ RANGE at 0 (ap not h)
 
 -- ---- the whole row is these tests and then the ranges
 module _ (s : List ℕ) (at tag size : ℕ) (ok : Bool) where
-  pub field-split : fieldTest s at tag size ok ≡ (fieldOf s at tag size then ranged ok at)
+  field-split : fieldTest s at tag size ok ≡ (fieldOf s at tag size then ranged ok at)
   unfolding fieldOf sizedOf
   field-split =
       field-row s at tag size ok

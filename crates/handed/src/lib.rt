@@ -40,10 +40,10 @@ fn head_test(
 ) -> Verdict
     ensures { λ r. ⌜ tested r ≡ numbersTest (numbers p boards cells modes first (now (follow .entry)) (now (ops .entry))) ⌝ }
 {
-    if !table::len_ok(p) {
+    if !ranges::len_ok(p) {
         return Verdict::Refused(Refusal::Range(0));
     }
-    if !table::counts_ok(boards, cells, modes) {
+    if !ranges::counts_ok(boards, cells, modes) {
         return Verdict::Refused(Refusal::Range(5));
     }
     if follow.len() != modes as usize {

@@ -8,7 +8,8 @@ use lib.ListN.{length, getD}
 use Rattle.rules.specs.Table.{Op, Table}
 use Rattle.rules.specs.Verdicts.{Verdict, accepted, SHORT, Test, refuseIf, _then_, onwards}
 use Rattle.rules.specs.Judge.{notMany, ranged, opOk, opOfNumbers, withOps, opsPlace, opsOfNumbers}
-use Rattle.table.specs.Tables.{counted, tableOf, tableIn}
+use Rattle.table.specs.Tables.{tableOf, tableIn}
+use Rattle.ranges.specs.Ranges.{counted}
 use Rattle.table.specs.declared.Table as code
 
 -- the operation whose six numbers stand at a place among the numbers

@@ -5,14 +5,15 @@ ghost use mathlib.Core.Bool.{true};
 ghost use lib.ListN.{length, drop};
 ghost use Rattle.rules.specs.Judge.{opOfNumbers, opOk};
 ghost use Rattle.fields.specs.Verdicts.{tested};
-ghost use Rattle.table.specs.Tables.{JudgedAs, tableOf, wideOf, opIn};
+ghost use Rattle.table.specs.Tables.{JudgedAs, tableOf, opIn};
+ghost use Rattle.ranges.specs.Ranges.{wideOf};
 ghost use Rattle.handed_ops.specs.HandedOps.{opThere, countsOf, nextTest, handedOps, SmallCounts, Bare};
 use fields::Refusal;
 use fields::Verdict;
+use ranges::Wide;
 use table::Judged;
 use table::Op;
 use table::Table;
-use table::Wide;
 
 // The six numbers of the operation that stands at a place among the numbers.
 fn wide_at(ops: &[u64], at: usize) -> Wide
@@ -42,7 +43,7 @@ fn op_test(t: Table, ops: &[u64], at: usize, place: usize) -> Verdict
         return Verdict::Refused(Refusal::Short(place));
     }
     let w = wide_at(ops, at);
-    if !table::wide_ok(t.len, t.boards, t.cells, t.modes, w) {
+    if !ranges::wide_ok(t.len, t.boards, t.cells, t.modes, w) {
         return Verdict::Refused(Refusal::Range(place));
     }
     Verdict::Accepted
@@ -54,7 +55,7 @@ fn op_at(t: Table, ops: &[u64], at: usize) -> Op
     ensures { λ r. ⌜ r ≡ opIn (opOfNumbers (drop at (now (ops .entry)))) ⌝ }
 {
     let w = wide_at(ops, at);
-    table::narrow(t.len, t.boards, t.cells, t.modes, w)
+    ranges::narrow(t.len, t.boards, t.cells, t.modes, w)
 }
 
 // All the operations, judged one after the other and put behind what stands before them.

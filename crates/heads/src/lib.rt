@@ -20,7 +20,7 @@ pub fn len_test(s: &[u8], tag: u8) -> Verdict
     match v {
         Verdict::Refused(r) => Verdict::Refused(r),
         Verdict::Accepted => {
-            let ok = table::len_ok(fields::be16(s, 3) as u64);
+            let ok = ranges::len_ok(fields::be16(s, 3) as u64);
             fields::range_test(ok, 0)
         }
     }
@@ -37,7 +37,7 @@ fn counts_test(s: &[u8]) -> Verdict
             let boards = fields::byte(s, 8) as u64;
             let cells = fields::byte(s, 9) as u64;
             let modes = fields::byte(s, 10) as u64;
-            fields::range_test(table::counts_ok(boards, cells, modes), 5)
+            fields::range_test(ranges::counts_ok(boards, cells, modes), 5)
         }
     }
 }

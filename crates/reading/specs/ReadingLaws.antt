@@ -20,7 +20,8 @@ use Rattle.fields.specs.Fields.{repeatOf}
 use Rattle.fields.specs.FieldLaws.{repeat-split, repeat-whole, from-next, ranged-no}
 use Rattle.table.specs.declared.Op.{Op}
 use Rattle.table.specs.declared.Table.{Table}
-use Rattle.table.specs.Tables.{opOf, counted, tableOf, tableIn, withOp, JudgedAs}
+use Rattle.table.specs.Tables.{opOf, tableOf, tableIn, withOp, JudgedAs}
+use Rattle.ranges.specs.Ranges.{counted}
 use Rattle.table.specs.TableLaws.{with-op-in}
 use Rattle.table.specs.JudgedLaws.{granted}
 use Rattle.reading.specs.Reading.{opVerdict, opsVerdict}
@@ -89,7 +90,7 @@ pub record SoFar (s : List ℕ) (t : Table) (at : ℕ) : Type 0 where
 
 -- at first nothing is read
 module _ (s : List ℕ) (t : Table) (e : t ≡ tableIn (headOf s)) where
-  pub head-modes : t .modes ≡ num8 s 10
+  head-modes : t .modes ≡ num8 s 10
   unfolding headOf
   head-modes = ap (λ (u : Table). u .modes) e
 

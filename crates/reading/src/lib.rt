@@ -5,14 +5,15 @@ ghost use lib.ListN.{length};
 ghost use Rattle.rules.specs.Verdicts.{accepted};
 ghost use Rattle.rules.specs.Bytes.{opAt};
 ghost use Rattle.rules.specs.Judge.{headTest, judge};
-ghost use Rattle.table.specs.Tables.{wideOf, tableOf, JudgedAs};
+ghost use Rattle.table.specs.Tables.{tableOf, JudgedAs};
+ghost use Rattle.ranges.specs.Ranges.{wideOf};
 ghost use Rattle.reading.specs.Reading.{nextOf, opVerdict, opsVerdict, fieldsVerdict};
 use fields::Refusal;
 use fields::Verdict;
+use ranges::Wide;
 use table::Judged;
 use table::Op;
 use table::Table;
-use table::Wide;
 
 // The next operation, or why there is none.
 enum Next {
@@ -48,10 +49,10 @@ fn next_op(s: &[u8], at: usize, t: Table) -> Next
         Verdict::Refused(r) => Next::Bad(r),
         Verdict::Accepted => {
             let w = read_op(s, at);
-            if !table::wide_ok(t.len, t.boards, t.cells, t.modes, w) {
+            if !ranges::wide_ok(t.len, t.boards, t.cells, t.modes, w) {
                 return Next::Bad(Refusal::Range(at));
             }
-            Next::Here(table::narrow(t.len, t.boards, t.cells, t.modes, w))
+            Next::Here(ranges::narrow(t.len, t.boards, t.cells, t.modes, w))
         }
     }
 }

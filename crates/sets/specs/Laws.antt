@@ -22,7 +22,7 @@ one-shl w m h = shl-exact 1 m w (lit< tt) (omega arith) ∙ one-mul (2 ^ m)
 
 -- ---- a set is known by its members
 
-pub within-le : (s t : ℕ) → Within s t → s ≤ t
+within-le : (s t : ℕ) → Within s t → s ≤ t
 unfolding without
 within-le s t w =
     omega

@@ -1,66 +1,20 @@
--- Laws of the code's tables: what the tests of an operation come to, and how a table is read back and grows.
+-- Laws of the code's tables: how a table is read back and grows.
 -- Assumes nothing.
-use Prim.Native.Nat.{ℕ, suc, _+_, _-_, _^_, _<_, _≤_}
+use Prim.Native.Nat.{ℕ, suc, _+_, _-_, _<_, _≤_}
 use mathlib.Core.Path.{_≡_, refl, sym, ap, subst⁻¹, _∙_}
-use mathlib.Core.Bool.{true, false, _&&_}
 use mathlib.Core.List.{List, [], _∷_, _++_, map, append-assoc}
 use native.Mathlib.Omega.{arith}
-use lib.Dec.{ltb}
-use lib.Pow.{pow-mono}
 use lib.ListN.{length, getD, take, set, replicate, length-map, length-append, List·getD-map}
 use lib.Seq.{take-at, set-at, getD-take, length-take-le}
-use borrow.Author.Tests.{lt-leb, le-leb}
 use Rattle.rules.specs.Table as rules
-use Rattle.rules.specs.Judge.{opOk, setOk, withOps}
-use Rattle.theory.proofs.Judging.{says-op}
+use Rattle.rules.specs.Judge.{withOps}
 use Rattle.table.specs.Tables.{opOf, opIn, blankOp, padded, tableOf, tableIn, withOp, Good}
 use Rattle.table.specs.declared.Op.{Op}
 use Rattle.table.specs.declared.Table.{Table}
 
--- ---- the tests of an operation, one after the other
-module _ (T : rules.Table) (o : rules.Op) where
-  pub op-no-time : o .dur < 1 → opOk T o ≡ false
-  unfolding opOk
-  op-no-time h = rw (lt-leb 1 (o .dur) h)
-
-  pub op-late : 1 ≤ o .dur → T .len < o .start + o .dur → opOk T o ≡ false
-  unfolding opOk
-  op-late h l = rw (le-leb 1 (o .dur) h, lt-leb (o .start + o .dur) (T .len) l)
-
-  pub op-sets : 1 ≤ o .dur → o .start + o .dur ≤ T .len
-      → opOk T o
-      ≡ (setOk (T .boards) (o .boards)
-      && (ltb (o .reads) (2 ^ T .cells) && (ltb (o .writes) (2 ^ T .cells) && setOk (T .modes) (o .modes))))
-  unfolding opOk
-  op-sets h l = rw (le-leb 1 (o .dur) h, le-leb (o .start + o .dur) (T .len) l)
-
--- numbers in range fit 32 bits
-pub record OpSmall (o : rules.Op) : Type 0 where
-  pub start : o .start < 2 ^ 32
-  pub dur : o .dur < 2 ^ 32
-  pub boards : o .boards < 2 ^ 32
-  pub reads : o .reads < 2 ^ 32
-  pub writes : o .writes < 2 ^ 32
-  pub modes : o .modes < 2 ^ 32
-
-small : {s n : ℕ} → s < 2 ^ n → n ≤ 32 → s < 2 ^ 32
-small {s} {n} h l = let m : 2 ^ n ≤ 2 ^ 32 = pow-mono l in omega arith
-
-pub op-small : (T : rules.Table) (o : rules.Op) → T .len < 2 ^ 32 → (T .boards ≤ 32) × (T .cells ≤ 32) × (T .modes ≤ 32) → opOk T o ≡ true → OpSmall o
-op-small T o h l e =
-    let ok = says-op T o .0 e in
-    record {
-      start = omega (arith, ok .fits);
-      dur = omega (arith, ok .fits);
-      boards = small (ok .boards .small) (l .0);
-      reads = small (ok .reads) (l .1);
-      writes = small (ok .writes) (l .1);
-      modes = small (ok .modes .small) (l .2);
-    }
-
 -- ---- filled up lists
 module _ {A : Type 0} (n : ℕ) (d : A) (xs : List A) where
-  pub take-padded : (k : ℕ) → k ≡ length xs → take k (padded n d xs) ≡ xs
+  take-padded : (k : ℕ) → k ≡ length xs → take k (padded n d xs) ≡ xs
   unfolding padded
   take-padded k e = take-at xs (replicate (n - length xs) d) k (sym e)
 

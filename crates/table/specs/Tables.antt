@@ -2,7 +2,7 @@
 -- Assumes nothing.
 use Prim.Native.Nat.{ℕ, _+_, _-_}
 use mathlib.Core.Path.{_≡_}
-use mathlib.Core.List.{List, [], _++_, map}
+use mathlib.Core.List.{List, _++_, map}
 use lib.ListN.{length, take, set, replicate}
 use Rattle.rules.specs.Table as rules
 use Rattle.rules.specs.Table.{nops}
@@ -11,24 +11,12 @@ use Rattle.rules.specs.Verdicts as verdicts
 use Rattle.fields.specs.Verdicts.{tested}
 use Rattle.table.specs.declared.Op.{Op}
 use Rattle.table.specs.declared.Table.{Table}
-use Rattle.table.specs.declared.Wide.{Wide}
 use Rattle.table.specs.declared.Judged.{Judged}
 
 -- ---- from the code to the rules
 
 abbrev pub opOf : Op → rules.Op
 opOf o =
-    record {
-      start = o .start;
-      dur = o .dur;
-      boards = o .boards;
-      reads = o .reads;
-      writes = o .writes;
-      modes = o .modes;
-    }
-
-abbrev pub wideOf : Wide → rules.Op
-wideOf o =
     record {
       start = o .start;
       dur = o .dur;
@@ -50,11 +38,6 @@ tableOf t =
       follow = take (t .modes) (t .follow);
       ops = map opOf (take (t .count) (t .ops));
     }
-
--- a table of this length and these counts, and nothing else
-abbrev pub counted : ℕ → ℕ → ℕ → ℕ → rules.Table
-counted len boards cells modes =
-    record { len = len; boards = boards; cells = cells; modes = modes; first = 0; follow = []; ops = [] }
 
 -- ---- from the rules to the code: what does not count is zero
 

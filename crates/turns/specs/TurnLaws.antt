@@ -47,7 +47,7 @@ module _ {A : Type 0} (f : ℕ → A) where
   getD-tab zero i d h = absurd (omega arith)
   getD-tab (suc n) i d h = tab-more n i d h (getD-tab n i d)
 
-pub tab-same : {A : Type 0} (f g : ℕ → A) (n : ℕ) → ((i : ℕ) → i < n → f i ≡ g i) → tab f n ≡ tab g n
+tab-same : {A : Type 0} (f g : ℕ → A) (n : ℕ) → ((i : ℕ) → i < n → f i ≡ g i) → tab f n ≡ tab g n
 unfolding tab
 tab-same f g zero h = refl
 tab-same f g (suc n) h = ap₂ (λ x y. x ++ (y ∷ [])) (tab-same f g n (λ i l. h i (omega arith))) (h n (omega arith))
@@ -129,7 +129,7 @@ via-each F (suc n) s b = later-each F n s b (via-each F n s)
     )
 
 -- ---- what a row of turns from single modes holds
-pub row-via : (F : List ℕ) (n m : ℕ) → m < 32 → getD (rowAfter F singles (suc n)) m 0 ≡ via F 0 n (2 ^ m)
+row-via : (F : List ℕ) (n m : ℕ) → m < 32 → getD (rowAfter F singles (suc n)) m 0 ≡ via F 0 n (2 ^ m)
 unfolding rowAfter nextRow singles via
 row-via F zero m h =
     getD-tab (λ k. step F (getD singles k 0)) 32 m 0 h ∙ ap (step F) (getD-tab (λ k. 2 ^ k) 32 m 0 h)
@@ -161,10 +161,10 @@ via-row F n s small =
     ))
 
 -- ---- what a run can reach, by first modes and followers alone
-abbrev pub turning : ℕ → List ℕ → rules.Table
+abbrev turning : ℕ → List ℕ → rules.Table
 turning first F = record { len = 0; boards = 0; cells = 0; modes = 0; first = first; follow = F; ops = [] }
 
-pub reach-good : (t : Table) → Good t → {a : ℕ} → Reach (turning (t .first) (t .follow)) a → Reach (tableOf t) a
+reach-good : (t : Table) → Good t → {a : ℕ} → Reach (turning (t .first) (t .follow)) a → Reach (tableOf t) a
 reach-good t good (begin h) = begin h
 reach-good t good (turn {a = a} {b = b} x h) =
     let here : In b (step (t .follow) (2 ^ a)) = in-step (t .follow) (2 ^ a) b .1 (a, in-single a a .1 refl, h) in

@@ -36,7 +36,7 @@ pub fn singles() -> [u32; 32]
 }
 
 // One turn more.
-pub fn next_row(follow: [u32; 32], row: [u32; 32]) -> [u32; 32]
+fn next_row(follow: [u32; 32], row: [u32; 32]) -> [u32; 32]
     ensures { λ r. ⌜ r ≡ nextRow follow row ⌝ }
 {
     let mut out = [0u32; 32];

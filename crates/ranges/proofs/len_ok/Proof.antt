@@ -2,8 +2,8 @@
 -- Assumes nothing.
 use borrow.Author.Tests.{le-leb, lt-leb}
 use Rattle.rules.specs.Judge.{lenOk}
-use Rattle.table.proofs.len_ok.Statement.{statement}
-use Rattle.table.proofs.len_ok.Tie as tie
+use Rattle.ranges.proofs.len_ok.Statement.{statement}
+use Rattle.ranges.proofs.len_ok.Tie as tie
 
 returns : tie.Need-returns
 unfolding lenOk

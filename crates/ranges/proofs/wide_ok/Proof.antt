@@ -7,10 +7,10 @@ use mathlib.Core.Path.{_≡_, sym, _∙_}
 use mathlib.Core.Bool.{true, false}
 use native.Mathlib.Omega.{arith}
 use borrow.Author.Tests.{not-true, not-false}
-use Rattle.table.specs.TableLaws.{op-no-time, op-late, op-sets}
+use Rattle.ranges.specs.RangeLaws.{op-no-time, op-late, op-sets}
 use borrow.Author.Needs.{needs}
-use Rattle.table.proofs.wide_ok.Statement.{statement}
-use Rattle.table.proofs.wide_ok.Tie as tie
+use Rattle.ranges.proofs.wide_ok.Statement.{statement}
+use Rattle.ranges.proofs.wide_ok.Tie as tie
 
 returns : tie.Need-returns
 returns c = sym (op-no-time _ _ (c .if1 .taken))

@@ -3,10 +3,10 @@
 use Prim.Native.Nat.{_^_, _<_}
 use native.Mathlib.Omega.{arith}
 use borrow.Author.Needs.{needs}
-use Rattle.table.specs.Tables.{counted, wideOf}
-use Rattle.table.specs.TableLaws.{op-small}
-use Rattle.table.proofs.narrow.Statement.{statement}
-use Rattle.table.proofs.narrow.Tie as tie
+use Rattle.ranges.specs.Ranges.{counted, wideOf}
+use Rattle.ranges.specs.RangeLaws.{op-small}
+use Rattle.ranges.proofs.narrow.Statement.{statement}
+use Rattle.ranges.proofs.narrow.Tie as tie
 
 cast-t6 : tie.Need-cast-t6
 cast-t6 c =
