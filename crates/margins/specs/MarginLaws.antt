@@ -11,7 +11,7 @@ use Rattle.rules.specs.Answers.{asked, periodAsked, marginTest}
 use Rattle.theory.proofs.Verdicts.{then-accepts, then-refuses}
 use Rattle.asks.specs.AskLaws.{asked-no, asked-yes, asked-in, asked-out}
 
-margin-row : (T : Table) (i j n q : ℕ)
+pub margin-row : (T : Table) (i j n q : ℕ)
     → marginTest T i j n q
     ≡ (asked (ltb i (nops T)) 0 then asked (ltb j (nops T)) 1 then asked (leb 1 n && leb n 1000) 2 then periodAsked T q 3)
 unfolding marginTest

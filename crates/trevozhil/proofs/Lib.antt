@@ -1,0 +1,3 @@
+pub mod Unique
+pub mod Numbered
+pub mod Zero

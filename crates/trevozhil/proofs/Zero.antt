@@ -1,0 +1,210 @@
+-- 0 is told of success alone, by each function for C; every other number that it returns is that of a refusal, 1 to 9.
+-- Assumes nothing.
+use Prim.Native.Nat.{ℕ, _≤_, _<_}
+use mathlib.Core.Path.{_≡_, refl, sym, ap, subst⁻¹, _∙_}
+use mathlib.Core.Bool.{Bool, cond}
+use mathlib.Core.List.{List, _++_}
+use native.Mathlib.Omega.{arith}
+use native.Mathlib.Decide.{decLt}
+use lib.IntN.{ℤ}
+use lib.ListN.{length, drop}
+use Rattle.rules.specs.Table.{Table}
+use Rattle.rules.specs.Runs.{IsPeriod}
+use Rattle.rules.specs.Rows.{Reply, replyOf, startsOf, margin}
+use Rattle.rules.specs.Verdicts.{Verdict, accepted, refused, _then_, onwards}
+use Rattle.rules.specs.Bytes.{tableBytes, replyBytes, startsBytes}
+use Rattle.rules.specs.Text.{textOf}
+use Rattle.rules.specs.Judge.{judge, judgeReply, Numbers, judgeNumbers}
+use Rattle.rules.specs.Answers.{Written, put, written, bytesOf, Answers, Planned, ReplyTo, periodAsked, marginTest, RightSaid}
+use Rattle.theory.specs.Tests.{askedTable}
+use Rattle.theory.proofs.Verdicts.{never-refused, then-accepts, then-first, then-rest, onwards-accepts, onwards-first}
+use Rattle.theory.proofs.Answering.{put-room, put-short, question}
+use Rattle.fields.specs.declared.Figures.{Figures}
+use Rattle.fields.specs.Verdicts.{figuresOf}
+use Rattle.asks.specs.AskLaws.{asked-in}
+use Rattle.telling.specs.Telling.{toldOf, unwritten, yesOf, Ended, ended, endedOf, marginEnded}
+use Rattle.calls.specs.Calls.{JudgeTells, NumbersTell, WriteEnds, PlanEnds, FoldEnds, UnfoldEnds, PeriodTells, RightTells, MarginEnds}
+use Rattle.trevozhil.proofs.Numbered.{Numbered, good, bad, then-numbered, onwards-numbered, judge-numbered, numbers-numbered, reply-numbered, asked-table-numbered, margin-numbered, put-numbered, answers-numbered}
+
+-- 0 is told exactly where P holds, and no number above 9
+pub record ZeroAlone (f : Figures) (P : Type 0) : Type 0 where
+  pub success : f .number ≡ 0 → P
+  pub zero : P → f .number ≡ 0
+  pub nine : f .number ≤ 9
+
+-- ---- the one law: of every verdict whose refusals are numbered
+told-zero : (v : Verdict ℕ) → Numbered v → ZeroAlone (toldOf v) ((n : ℕ) × (v ≡ accepted n))
+told-zero (accepted n) good = record { success = λ e. (n, refl); zero = λ x. refl; nine = omega arith }
+told-zero (refused number a b) (bad h) =
+    record { success = λ e. absurd (omega (arith, e, h .0)); zero = λ x. never-refused (x .1); nine = h .1 }
+
+-- the same said in other words
+zero-as : {f g : Figures} {P Q : Type 0} → g ≡ f → ZeroAlone f P → (P → Q) → (Q → P) → ZeroAlone g Q
+zero-as {f} {g} {P} {Q} e z to from =
+    subst⁻¹ (λ (h : Figures). ZeroAlone h Q) e
+    (record { success = λ n. to (z .success n); zero = λ x. z .zero (from x); nine = z .nine })
+
+-- of a verdict that is handed on
+onwards-zero : {A : Type 0} (v : Verdict A) (g : A → ℕ) → Numbered v
+    → ZeroAlone (toldOf (onwards v (λ x. accepted (g x)))) ((x : A) × (v ≡ accepted x))
+onwards-zero v g h =
+    zero-as refl (told-zero _ (onwards-numbered h (λ x. good)))
+    (λ (n, e). let (x, y, z) = onwards-first v (λ x. accepted (g x)) e in (x, y))
+    (λ (x, e). (g x, onwards-accepts (λ x. accepted (g x)) e))
+
+-- ---- judged
+
+judged-zero : {A : Type 0} (v : Verdict A) (f : Figures) → Numbered v → f ≡ toldOf (unwritten v) → ZeroAlone f ((x : A) × (v ≡ accepted x))
+unfolding unwritten
+judged-zero v f h e = zero-as e (onwards-zero v (λ x. 0) h) (λ x. x) (λ x. x)
+
+-- trevozhil_judge returns 0 exactly where the table is accepted
+pub judge-zero : (s : List ℕ) (f : Figures) → JudgeTells s f → ZeroAlone f ((T : Table) × (judge s ≡ accepted T))
+judge-zero s f e = judged-zero (judge s) f (judge-numbered s) e
+
+-- trevozhil_judge_numbers likewise
+pub numbers-zero : (N : Numbers) (f : Figures) → NumbersTell N f → ZeroAlone f ((T : Table) × (judgeNumbers N ≡ accepted T))
+numbers-zero N f e = judged-zero (judgeNumbers N) f (numbers-numbered N) e
+
+-- ---- with a lent buffer
+
+-- bytes that stand in front of what the buffer held
+abbrev pub inFront : List ℕ → List ℕ → Ended (List ℕ)
+inFront bytes out = ended (figuresOf 0 (length bytes) 0) (bytes ++ drop (length bytes) out)
+
+put-zero : (bytes out : List ℕ) (l : Ended (List ℕ)) → l ≡ endedOf (put bytes out) → ZeroAlone (l .told) (l ≡ inFront bytes out)
+put-zero bytes out l e =
+    let told : l .told ≡ toldOf (put bytes out .answer) = ap (λ (m : Ended (List ℕ)). m .told) e in
+    let z = told-zero (put bytes out .answer) (put-numbered bytes out) in
+    record {
+      success = λ n. e ∙ go (decLt (length out) (length bytes)) (z .success (sym (ap (λ (f : Figures). f .number) told) ∙ n) .1);
+      zero = λ x. ap (λ (m : Ended (List ℕ)). m .told .number) x;
+      nine = rw told (z .nine);
+    }
+  where
+    go : Dec (length out < length bytes) → {n : ℕ} → put bytes out .answer ≡ accepted n → endedOf (put bytes out) ≡ inFront bytes out
+    go (yes h) x = never-refused (sym (ap (λ (w : Written). w .answer) (put-short bytes out h)) ∙ x)
+    go (no h) x = ap endedOf (put-room bytes out (omega arith))
+
+written-zero : {A : Type 0} (f : A → List ℕ) (v : Verdict A) (out : List ℕ) (l : Ended (List ℕ)) → Numbered v → l ≡ endedOf (written (bytesOf f v) out)
+    → ZeroAlone (l .told) ((x : A) × (v ≡ accepted x) × (l ≡ inFront (f x) out))
+unfolding written bytesOf onwards
+written-zero f (accepted x) out l good e =
+    let z = put-zero (f x) out l e in
+    record {
+      success = λ n. (x, refl, z .success n);
+      zero = λ (y, same, front). ap (λ (m : Ended (List ℕ)). m .told .number) front;
+      nine = z .nine;
+    }
+written-zero f (refused number a b) out l (bad h) e =
+    let told : l .told .number ≡ number = ap (λ (m : Ended (List ℕ)). m .told .number) e in
+    record {
+      success = λ n. absurd (omega (arith, n, told, h .0));
+      zero = λ (y, same, front). never-refused same;
+      nine = omega (arith, told, h .1);
+    }
+
+-- trevozhil_write returns 0 exactly where the table is accepted and its bytes are in the buffer
+pub write-zero : (N : Numbers) (out : List ℕ) (l : Ended (List ℕ)) → WriteEnds N out l
+    → ZeroAlone (l .told) ((T : Table) × (judgeNumbers N ≡ accepted T) × (l ≡ inFront (tableBytes T) out))
+write-zero N out l (w, p, e) = written-zero tableBytes (judgeNumbers N) out l (numbers-numbered N) (e ∙ ap endedOf p)
+
+-- trevozhil_unfold: where the reply is accepted and the starts are in the buffer
+pub unfold-zero : (s out : List ℕ) (l : Ended (List ℕ)) → UnfoldEnds s out l
+    → ZeroAlone (l .told) ((R : Reply) × (judgeReply s ≡ accepted R) × (l ≡ inFront (startsBytes (startsOf R)) out))
+unfold-zero s out l (w, p, e) = written-zero (λ R. startsBytes (startsOf R)) (judgeReply s) out l (reply-numbered s) (e ∙ ap endedOf p)
+
+-- trevozhil_fold: where the text, that of a refused table too, is in the buffer
+pub fold-zero : (s out : List ℕ) (l : Ended (List ℕ)) → FoldEnds s out l
+    → ZeroAlone (l .told) ((v : Verdict Reply) × ReplyTo s v × (l ≡ inFront (textOf v) out))
+fold-zero s out l (w, (v, r, p), e) =
+    let z = put-zero (textOf v) out l (e ∙ ap endedOf p) in
+    record {
+      success = λ n. (v, r, z .success n);
+      zero = λ (u, x, front). ap (λ (m : Ended (List ℕ)). m .told .number) front;
+      nine = z .nine;
+    }
+
+-- ---- answers that are facts about what was accepted
+
+answered-first : {A B : Type 0} (P : A → B → Type 0) (u : Verdict A) (v : Verdict B) {y : B} → Answers P u v → v ≡ accepted y → (x : A) × (u ≡ accepted x) × P x y
+unfolding Answers
+answered-first P (accepted x) v {y} a e = let same : a .0 ≡ y = cc (a .2, e) in (x, refl, rw same at (a .1))
+answered-first P (refused n b c) v a e = never-refused (sym a ∙ e)
+
+answered-back : {A B : Type 0} (P : A → B → Type 0) (u : Verdict A) (v : Verdict B) {x : A} → Answers P u v → u ≡ accepted x → (y : B) × (v ≡ accepted y)
+unfolding Answers
+answered-back P (accepted x) v a e = (a .0, a .2)
+answered-back P (refused n b c) v a e = never-refused e
+
+-- trevozhil_plan: where the table is accepted and its reply, at its period, is in the buffer
+pub plan-zero : (s out : List ℕ) (l : Ended (List ℕ)) → PlanEnds s out l
+    → ZeroAlone (l .told) ((T : Table) × (judge s ≡ accepted T) × (q : ℕ) × IsPeriod T q × (l ≡ inFront (replyBytes (replyOf T q)) out))
+plan-zero s out l (w, (v, r, p), e) =
+    let z = written-zero replyBytes v out l (answers-numbered Planned (judge-numbered s) r) (e ∙ ap endedOf p) in
+    record {
+      success = λ n.
+          let (R, x, front) = z .success n in
+          let (T, y, (q, period, same)) = answered-first Planned (judge s) v r x in
+          (T, y, q, period, front ∙ ap (λ (S : Reply). inFront (replyBytes S) out) same);
+      zero = λ (T, y, q, period, front). ap (λ (m : Ended (List ℕ)). m .told .number) front;
+      nine = z .nine;
+    }
+
+-- ---- questions
+
+-- trevozhil_period: where the table is accepted; a is its period
+pub period-zero : (s : List ℕ) (f : Figures) → PeriodTells s f → ZeroAlone f ((T : Table) × (judge s ≡ accepted T) × IsPeriod T (f .a))
+period-zero s f (v, r, e) =
+    zero-as e (told-zero v (answers-numbered IsPeriod (judge-numbered s) r))
+    (λ (n, x).
+    let (T, y, period) = answered-first IsPeriod (judge s) v r x in
+    let same : f .a ≡ n = ap (λ (g : Figures). g .a) (e ∙ ap toldOf x) in
+    (T, y, rw same period))
+    (λ (T, y, period). answered-back IsPeriod (judge s) v r y)
+
+-- a table that may be asked about q
+asked-both : (s : List ℕ) (q : ℕ) (T : Table) → askedTable s q ≡ accepted T → (judge s ≡ accepted T) × (1 ≤ q) × (q ≤ T .len)
+asked-both s q T e =
+    let (ok, low, high) = question s q T e in
+    let (U, x, y) = onwards-first (judge s) (λ T. periodAsked T q 0 then accepted T) e in
+    let same : U ≡ T = cc (then-rest (periodAsked U q 0) (accepted U) y) in
+    (x ∙ ap accepted same, low, high)
+
+-- trevozhil_is_right: where the table is accepted and q is from 1 to its length; a is 1 for yes and 0 for no
+pub right-zero : (s : List ℕ) (q : ℕ) (f : Figures) → RightTells s q f
+    → ZeroAlone f ((T : Table) × (judge s ≡ accepted T) × (1 ≤ q) × (q ≤ T .len) × (said : Bool) × RightSaid q T said × (f .a ≡ cond said 1 0))
+unfolding yesOf
+right-zero s q f (v, r, e) =
+    zero-as e (onwards-zero v (λ said. cond said 1 0) (answers-numbered (RightSaid q) (asked-table-numbered s q) r))
+    (λ (said, x).
+    let (T, y, right) = answered-first (RightSaid q) (askedTable s q) v r x in
+    let (read, low, high) = asked-both s q T y in
+    (T, read, low, high, said, right, ap (λ (g : Figures). g .a) (e ∙ ap toldOf (onwards-accepts (λ said. accepted (cond said 1 0)) x))))
+    (λ (T, read, low, high, said, right, figure).
+    answered-back (RightSaid q) (askedTable s q) v r
+    (onwards-accepts (λ T. periodAsked T q 0 then accepted T) read ∙ then-accepts (accepted T) (asked-in q (T .len) 0 low high)))
+
+-- what is told of a margin is told of its verdict
+margin-figures : (v : Verdict ℤ) (before : ℤ) → marginEnded v before .told ≡ toldOf (unwritten v)
+unfolding marginEnded unwritten onwards
+margin-figures (accepted z) before = refl
+margin-figures (refused number a b) before = refl
+
+-- trevozhil_margin: where the table is accepted and each number asked for is in its range; the place for the margin holds it
+pub margin-zero : (s : List ℕ) (i j n q : ℕ) (before : ℤ) (l : Ended ℤ) → MarginEnds s i j n q before l
+    → ZeroAlone (l .told) ((T : Table) × (judge s ≡ accepted T) × (marginTest T i j n q ≡ accepted tt) × (l ≡ ended (figuresOf 0 0 0) (margin T i j n q)))
+unfolding marginEnded
+margin-zero s i j n q before l (v, p, e) =
+    let asked : Table → Verdict ℤ = λ T. marginTest T i j n q then accepted (margin T i j n q) in
+    let numbered = subst⁻¹ Numbered p (onwards-numbered {f = asked} (judge-numbered s) (λ T. then-numbered (margin-numbered T i j n q) good)) in
+    let z = judged-zero v (l .told) numbered (ap (λ (m : Ended ℤ). m .told) e ∙ margin-figures v before) in
+    record {
+      success = λ h.
+          let (found, x) = z .success h in
+          let (T, read, row) = onwards-first (judge s) asked (sym p ∙ x) in
+          let same : margin T i j n q ≡ found = cc (then-rest (marginTest T i j n q) (accepted (margin T i j n q)) row) in
+          (T, read, then-first (marginTest T i j n q) (accepted (margin T i j n q)) row .1, e ∙ ap (λ (u : Verdict ℤ). marginEnded u before) (x ∙ ap accepted (sym same)));
+      zero = λ (T, read, test, same). ap (λ (m : Ended ℤ). m .told .number) same;
+      nine = z .nine;
+    }
