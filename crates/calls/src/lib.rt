@@ -28,8 +28,8 @@ pub fn judge_numbers(
     ensures { λ r. ⌜ NumbersTell (numbers p boards cells modes first (now (follow .entry)) (now (ops .entry))) (figuresOf r (now (a .exit)) (now (b .exit))) ⌝ }
 {
     let judged = handed::judge(p, boards, cells, modes, first, follow, ops);
-    let verdict = judged.verdict;
-    telling::tell(telling::verdict_told(verdict), a, b)
+    let outcome = judged.verdict;
+    telling::tell(telling::verdict_told(outcome), a, b)
 }
 
 // A table that is handed over as numbers, judged and written.
@@ -47,48 +47,48 @@ pub fn write(
 ) -> u32
     ensures { λ r. ⌜ WriteEnds (numbers p boards cells modes first (now (follow .entry)) (now (ops .entry))) (now (out .entry)) (ended (figuresOf r (now (a .exit)) (now (b .exit))) (now (out .exit))) ⌝ }
 {
-    let answer = planner::write_table(p, boards, cells, modes, first, follow, ops, out);
-    telling::tell(telling::answer_told(answer), a, b)
+    let table = planner::write_table(p, boards, cells, modes, first, follow, ops, out);
+    telling::tell(telling::answer_told(table), a, b)
 }
 
 // The period of a table.
 pub fn period(s: &[u8], a: &mut u64, b: &mut u64) -> u32
     ensures { λ r. ⌜ PeriodTells (now (s .entry)) (figuresOf r (now (a .exit)) (now (b .exit))) ⌝ }
 {
-    let answer = planner::period_of(s);
-    telling::tell(telling::found_told(answer), a, b)
+    let found = planner::period_of(s);
+    telling::tell(telling::found_told(found), a, b)
 }
 
 // Whether a period is right for a table.
 pub fn is_right(s: &[u8], q: u64, a: &mut u64, b: &mut u64) -> u32
     ensures { λ r. ⌜ RightTells (now (s .entry)) q (figuresOf r (now (a .exit)) (now (b .exit))) ⌝ }
 {
-    let answer = planner::is_right(s, q);
-    telling::tell(telling::truth_told(answer), a, b)
+    let truth = planner::is_right(s, q);
+    telling::tell(telling::truth_told(truth), a, b)
 }
 
 // The reply to a table: its period and rows.
 pub fn plan(s: &[u8], out: &mut [u8], a: &mut u64, b: &mut u64) -> u32
     ensures { λ r. ⌜ PlanEnds (now (s .entry)) (now (out .entry)) (ended (figuresOf r (now (a .exit)) (now (b .exit))) (now (out .exit))) ⌝ }
 {
-    let answer = planner::plan(s, out);
-    telling::tell(telling::answer_told(answer), a, b)
+    let reply = planner::plan(s, out);
+    telling::tell(telling::answer_told(reply), a, b)
 }
 
 // The text that the program `fold` prints for a table.
 pub fn fold(s: &[u8], out: &mut [u8], a: &mut u64, b: &mut u64) -> u32
     ensures { λ r. ⌜ FoldEnds (now (s .entry)) (now (out .entry)) (ended (figuresOf r (now (a .exit)) (now (b .exit))) (now (out .exit))) ⌝ }
 {
-    let answer = planner::fold(s, out);
-    telling::tell(telling::answer_told(answer), a, b)
+    let text = planner::fold(s, out);
+    telling::tell(telling::answer_told(text), a, b)
 }
 
 // The starts that a reply's rows came from.
 pub fn unfold(s: &[u8], out: &mut [u8], a: &mut u64, b: &mut u64) -> u32
     ensures { λ r. ⌜ UnfoldEnds (now (s .entry)) (now (out .entry)) (ended (figuresOf r (now (a .exit)) (now (b .exit))) (now (out .exit))) ⌝ }
 {
-    let answer = planner::unfold(s, out);
-    telling::tell(telling::answer_told(answer), a, b)
+    let starts = planner::unfold(s, out);
+    telling::tell(telling::answer_told(starts), a, b)
 }
 
 // The margin of two operations of a table.
@@ -104,6 +104,6 @@ pub fn margin(
 ) -> u32
     ensures { λ r. ⌜ MarginEnds (now (s .entry)) i j n q (now (margin .entry)) (ended (figuresOf r (now (a .exit)) (now (b .exit))) (now (margin .exit))) ⌝ }
 {
-    let answer = planner::margin(s, i, j, n, q);
-    telling::tell(telling::measured_told(answer, margin), a, b)
+    let measured = planner::margin(s, i, j, n, q);
+    telling::tell(telling::measured_told(measured, margin), a, b)
 }

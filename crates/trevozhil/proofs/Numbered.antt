@@ -20,7 +20,7 @@ use Rattle.theory.proofs.Replies.{reply-row}
 use Rattle.margins.specs.MarginLaws.{margin-row}
 
 -- the numbers of refusals
-abbrev pub Refuses : ℕ → Type 0
+abbrev Refuses : ℕ → Type 0
 Refuses number = (1 ≤ number) × (number ≤ 9)
 
 -- a verdict that, where it refuses, has the number of a refusal

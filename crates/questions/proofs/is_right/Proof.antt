@@ -29,7 +29,7 @@ is-right-requires : tie.Need-is-right-requires
 is-right-requires c κs =
     let asked = c .before .before .asked in
     let x = asked-accepted _ (c .before .before .before .before .args .q) (asked .result) (asked .ensures) (c .enum-told .given .1) in
-    (x .good, omega (arith, x .low, x .good .accepted .len-low), omega (arith, x .high))
+    (x .good, omega (arith, x .low), omega (arith, x .high, x .good .accepted .len-low))
 
 returns : tie.Need-returns
 returns c =
