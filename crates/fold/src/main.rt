@@ -1,4 +1,4 @@
-// Reads at most 4096 bytes of standard input, a table's, and prints the text that `planner::fold` makes of them.
+// Reads at most 4096 bytes of standard input, a table's, and prints the text that `planner::text` makes of them.
 use libc::STDIN_FILENO;
 
 fn main() {

@@ -1,31 +1,44 @@
 // What the programs print, to standard output.
-use fields::Answer;
+ghost use mathlib.Core.Path.{_≡_};
+ghost use Rattle.rules.specs.Text.{textOf};
+ghost use Rattle.rules.specs.Answers.{IsText};
+ghost use Rattle.fields.specs.Verdicts.{refusalOf};
 use fields::Refusal;
 use libc::STDOUT_FILENO;
 
-// Writes a text, or says why it cannot.
-pub fn print(text: &[u8]) {
-    if !io::write_all(STDOUT_FILENO, text) {
+// Writes bytes, or says why it cannot.
+pub fn print(bytes: &[u8]) {
+    if !io::write_all(STDOUT_FILENO, bytes) {
         os::fail(b"standard output");
     }
 }
 
-// The text that `planner::fold` makes of a table's bytes.
+// Prints what is the text for a table's bytes, whole, and nothing else.
+fn emit_text(s: &[u8], text: &[u8])
+    requires { ⌜ IsText (now s) (now text) ⌝ }
+{
+    print(text);
+}
+
+// The text for a table's bytes.
 pub fn print_fold(s: &[u8]) {
-    // no text has more: 12 bytes for the period, and 24 for each of 32 rows; so ROOM is never told
-    let mut text = [0u8; 780];
-    let answer = planner::fold(s, &mut text);
-    if let Answer::Wrote(k) = answer {
-        print(&text[..k]);
-    }
+    let t = planner::text(s);
+    let n = t.len;
+    let bytes = t.bytes;
+    emit_text(s, &bytes[..n]);
+}
+
+// Prints what is the line of a refusal, whole, and nothing else.
+fn emit_line(r: Refusal, line: &[u8])
+    requires { ⌜ now line ≡ textOf (refusalOf r) ⌝ }
+{
+    print(line);
 }
 
 // The line of a refusal.
 pub fn print_refusal(r: Refusal) {
-    // no line has more: 11 bytes, and 20 for each of three numbers; so ROOM is never told
-    let mut line = [0u8; 71];
-    let answer = text::put_refusal(&mut line, r);
-    if let Answer::Wrote(k) = answer {
-        print(&line[..k]);
-    }
+    let line = text::refusal_text(r);
+    let n = line.len;
+    let bytes = line.bytes;
+    emit_line(r, &bytes[..n]);
 }

@@ -77,9 +77,6 @@ module _ (text : List ℕ) (t : Text) (e : t ≡ textIn text) where
   unfolding padded
   text-fits = rw e (omega (arith, length-append text (replicate (longestText - length text) 0)))
 
-  pub text-counted : t .len ≡ length (take (t .len) (t .bytes))
-  text-counted = sym (length-take-le (t .len) (t .bytes) text-fits)
-
   pub text-front : take (t .len) (t .bytes) ≡ text
   text-front = rw e (take-padded longestText 0 text (length text) refl)
 

@@ -1,8 +1,9 @@
 -- The text for the bytes is put into the buffer, as many bytes as it counts.
 -- Assumes nothing.
 use denote.Ref.{now}
-use lib.ListN.{take}
-use Rattle.text.specs.TextLaws.{text-fits, text-counted}
+use native.Mathlib.Omega.{arith}
+use lib.ListN.{take, length-take}
+use Rattle.text.specs.TextLaws.{text-fits}
 use Rattle.folds.specs.FoldLaws.{text-is}
 use borrow.Author.Needs.{needs}
 use Rattle.folds.proofs.fold.Statement.{statement}
@@ -12,10 +13,13 @@ text-of-requires : tie.Need-text-of-requires
 text-of-requires c κs = search needs
 
 array-share-prefix-bytes : tie.Need-array-share-prefix-bytes
-array-share-prefix-bytes c = let made = c .before .before .text-of in text-fits (made .ensures .0) (made .result) (made .ensures .2)
+array-share-prefix-bytes c =
+    let made = c .before .before .text-of in omega (arith, text-fits (made .ensures .0) (made .result) (made .ensures .2))
 
 slice-aggregate-put-text : tie.Need-slice-aggregate-put-text
-slice-aggregate-put-text c = let made = c .before .before .before .text-of in text-counted (made .ensures .0) (made .result) (made .ensures .2)
+slice-aggregate-put-text c =
+    let made = c .before .before .before .text-of in
+    simp length-take (omega (arith, text-fits (made .ensures .0) (made .result) (made .ensures .2)))
 
 put-text-requires : tie.Need-put-text-requires
 put-text-requires c κs = search needs

@@ -1,54 +1,43 @@
--- The text stands in the buffer, as many bytes as are told.
+-- As many bytes as the text counts are handed on, and they are the text for the bytes.
 -- Assumes nothing.
-use mathlib.Core.Path.{sym, ap}
-use lib.Seq.{length-take-le}
-use Rattle.theory.proofs.Answering.{put-count}
-use Rattle.fields.specs.Verdicts.{answered}
+use mathlib.Core.Path.{_≡_}
+use native.Mathlib.Omega.{arith}
+use lib.ListN.{length, length-take}
+use Rattle.rules.specs.Text.{longestText}
+use Rattle.text.specs.TextLaws.{text-fits}
+use Rattle.folds.specs.FoldLaws.{text-is}
 use borrow.Author.Needs.{needs}
 use Rattle.printing.proofs.print_fold.Statement.{statement}
 use Rattle.printing.proofs.print_fold.Tie as tie
 
-slice-aggregate-fold : tie.Need-slice-aggregate-fold
-slice-aggregate-fold c = search needs
+text-requires : tie.Need-text-requires
+text-requires c κs = search needs
 
-fold-requires : tie.Need-fold-requires
-fold-requires c κs = search needs
+array-share-prefix-bytes : tie.Need-array-share-prefix-bytes
+array-share-prefix-bytes c =
+    let made = c .before .text in
+    let all : length (made .result .bytes) ≡ longestText = search needs in
+    omega (arith, text-fits (made .ensures .0) (made .result) (made .ensures .2))
 
-enum-known-answer : tie.Need-enum-known-answer
-enum-known-answer c = search needs
+slice-aggregate-emit-text : tie.Need-slice-aggregate-emit-text
+slice-aggregate-emit-text c =
+    let made = c .before .before .text in
+    let all : length (made .result .bytes) ≡ longestText = search needs in
+    simp length-take (omega (arith, text-fits (made .ensures .0) (made .result) (made .ensures .2)))
 
-array-share-prefix-text : tie.Need-array-share-prefix-text
-array-share-prefix-text c =
-    let told = c .before in
-    put-count _ _ _ _ (told .before .before .before .fold .ensures .2) (ap answered (told .answer .given .1))
-
-slice-aggregate-print : tie.Need-slice-aggregate-print
-slice-aggregate-print c =
-    let told = c .before .before in
-    sym (length-take-le _ _ (put-count _ _ _ _ (told .before .before .before .fold .ensures .2) (ap answered (told .answer .given .1))))
-
-print-requires : tie.Need-print-requires
-print-requires c κs = search needs
-
-enum-told : tie.Need-enum-told
-enum-told c = search needs
+emit-text-requires : tie.Need-emit-text-requires
+emit-text-requires c κs =
+    let made = c .before .before .text in text-is _ (made .result) (made .ensures)
 
 returns : tie.Need-returns
 returns c = search needs
-
-returns-2 : tie.Need-returns-2
-returns-2 c = search needs
 
 pub print-fold-spec : {M : Type 1} → statement M
 print-fold-spec =
     tie.close
     (tie.spec
-    slice-aggregate-fold
-    fold-requires
-    enum-known-answer
-    array-share-prefix-text
-    slice-aggregate-print
-    print-requires
-    enum-told
-    returns
-    returns-2)
+    text-requires
+    array-share-prefix-bytes
+    slice-aggregate-emit-text
+    emit-text-requires
+    returns)

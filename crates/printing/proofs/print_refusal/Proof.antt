@@ -1,54 +1,42 @@
--- The text stands in the buffer, as many bytes as are told.
+-- As many bytes as the text counts are handed on, and they are the line of the refusal.
 -- Assumes nothing.
-use mathlib.Core.Path.{sym, ap}
-use lib.Seq.{length-take-le}
-use Rattle.theory.proofs.Answering.{put-count}
-use Rattle.fields.specs.Verdicts.{answered}
+use mathlib.Core.Path.{_≡_}
+use native.Mathlib.Omega.{arith}
+use lib.ListN.{length, length-take}
+use Rattle.rules.specs.Text.{longestText}
+use Rattle.text.specs.TextLaws.{text-fits, text-front}
 use borrow.Author.Needs.{needs}
 use Rattle.printing.proofs.print_refusal.Statement.{statement}
 use Rattle.printing.proofs.print_refusal.Tie as tie
 
-slice-aggregate-put-refusal : tie.Need-slice-aggregate-put-refusal
-slice-aggregate-put-refusal c = search needs
+refusal-text-requires : tie.Need-refusal-text-requires
+refusal-text-requires c κs = search needs
 
-put-refusal-requires : tie.Need-put-refusal-requires
-put-refusal-requires c κs = search needs
+array-share-prefix-bytes : tie.Need-array-share-prefix-bytes
+array-share-prefix-bytes c =
+    let made = c .before .refusal-text in
+    let all : length (made .result .bytes) ≡ longestText = search needs in
+    omega (arith, text-fits _ (made .result) (made .ensures))
 
-enum-known-answer : tie.Need-enum-known-answer
-enum-known-answer c = search needs
+slice-aggregate-emit-line : tie.Need-slice-aggregate-emit-line
+slice-aggregate-emit-line c =
+    let made = c .before .before .refusal-text in
+    let all : length (made .result .bytes) ≡ longestText = search needs in
+    simp length-take (omega (arith, text-fits _ (made .result) (made .ensures)))
 
-array-share-prefix-line : tie.Need-array-share-prefix-line
-array-share-prefix-line c =
-    let told = c .before in
-    put-count _ _ _ _ (told .before .before .before .put-refusal .ensures) (ap answered (told .answer .given .1))
-
-slice-aggregate-print : tie.Need-slice-aggregate-print
-slice-aggregate-print c =
-    let told = c .before .before in
-    sym (length-take-le _ _ (put-count _ _ _ _ (told .before .before .before .put-refusal .ensures) (ap answered (told .answer .given .1))))
-
-print-requires : tie.Need-print-requires
-print-requires c κs = search needs
-
-enum-told : tie.Need-enum-told
-enum-told c = search needs
+emit-line-requires : tie.Need-emit-line-requires
+emit-line-requires c κs =
+    let made = c .before .before .refusal-text in text-front _ (made .result) (made .ensures)
 
 returns : tie.Need-returns
 returns c = search needs
-
-returns-2 : tie.Need-returns-2
-returns-2 c = search needs
 
 pub print-refusal-spec : {M : Type 1} → statement M
 print-refusal-spec =
     tie.close
     (tie.spec
-    slice-aggregate-put-refusal
-    put-refusal-requires
-    enum-known-answer
-    array-share-prefix-line
-    slice-aggregate-print
-    print-requires
-    enum-told
-    returns
-    returns-2)
+    refusal-text-requires
+    array-share-prefix-bytes
+    slice-aggregate-emit-line
+    emit-line-requires
+    returns)
