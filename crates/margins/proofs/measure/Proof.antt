@@ -29,7 +29,7 @@ diff-requires c κs =
     )
 
 returns : tie.Need-returns
-returns c = toZ-ofZ {w = w32} (search needs) ∙ c .diff .ensures
+returns c = toZ-ofZ {w = w32} (search needs) ∙ c .diff .ensures ∙ rw (c .before .end-of .ensures)
 
 pub measure-spec : {M : Type 1} → statement M
 measure-spec = tie.close (tie.spec mul-later add-later end-of-requires cast-end diff-requires returns)
