@@ -1,122 +1,132 @@
--- The figures of a refusal of a table's bytes: its number is at most 9, and a and b are places up to 821 or numbers of operations.
+-- The figures of a refusal of a table's bytes, of a table handed over as numbers and of a reply's bytes: its number is 1 to 9, and a and b
+-- are places up to 821 or numbers of operations.
 -- Assumes nothing.
 use Prim.Native.Nat.{ℕ, zero, suc, _+_, _-_, _*_, _<_, _≤_}
 use mathlib.Core.Path.{_≡_, refl, subst}
-use mathlib.Core.Bool.{Bool, true, false, not, cond}
+use mathlib.Core.Bool.{Bool, true, false, not, cond, _&&_}
 use mathlib.Core.List.{List, []}
 use native.Mathlib.Omega.{arith}
 use lib.Dec.{leb, ltb, eqb}
-use lib.ListN.{length}
+use lib.ListN.{length, drop}
 use Rattle.rules.specs.Table.{Op, Table, nops, op, noOp}
 use Rattle.rules.specs.Verdicts.{Verdict, accepted, refused, SHORT, ORDER, SIZE, RANGE, MANY, CLASH, RACE, Test, refuseIf, _then_, onwards, more, each}
-use Rattle.rules.specs.Bytes.{num8, num16, opAt, farthest}
-use Rattle.rules.specs.Judge.{needed, header, due, sized, complete, ranged, notMany, fieldTest, repeatTest, fieldsFrom, opOk, clashes, races, pairsTest, judgeWhole, headOf, withOps, opsPlace, headTest, opsFrom, judge}
-use Rattle.theory.proofs.Judging.{field-row, repeat-row, fields-end, fields-next, fields-passing, field-passed, whole-row, head-row, head-ok, judge-row}
+use Rattle.rules.specs.Rows.{ticks}
+use Rattle.rules.specs.Bytes.{num8, num16, opAt, rowAt, farthest}
+use Rattle.rules.specs.Judge.{needed, header, due, sized, complete, ranged, notMany, fieldTest, repeatTest, fieldsFrom, lenOk, countsOk, setOk, eachSetOk, opOk, clashes, races, pairsTest, judgeWhole, headOf, withOps, opsPlace, headTest, opsFrom, judge, Numbers, opOfNumbers, headOfNumbers, numbersTest, opsOfNumbers, judgeNumbers, rowOk, rowsFrom, judgeReply}
+use Rattle.theory.proofs.Judging.{field-row, repeat-row, fields-end, fields-next, fields-passing, field-passed, range-passed, whole-row, head-row, head-ok, judge-row, numbers-end, numbers-next, numbers-passing, numbers-row, judgeNumbers-row, numbers-ok}
 use Rattle.theory.proofs.Lengths.{modes-few}
+use Rattle.theory.proofs.Replies.{reply-row}
 
--- v is no refusal, or one of this document's numbers with figures of at most 821
-Told : {A : Type 0} → Verdict A → Type 0
-Told (accepted x) = Unit {0}
-Told (refused n a b) = (n ≤ 9) × (a ≤ farthest) × (b ≤ farthest)
+pub record Small (n a b : ℕ) : Type 0 where
+  pub low : 1 ≤ n
+  pub high : n ≤ 9
+  pub first : a ≤ farthest
+  pub second : b ≤ farthest
+
+-- v is no refusal, or one of document 01's numbers with figures of at most 821
+unfoldable pub Bounded : {A : Type 0} → Verdict A → Type 0
+Bounded (accepted x) = Unit {0}
+Bounded (refused n a b) = Small n a b
 
 -- ---- one test after the other
 
-told-if : (fault : Bool) (n a b : ℕ) → n ≤ 9 → a ≤ farthest → b ≤ farthest → Told (refuseIf fault n a b)
-unfolding Told refuseIf
-told-if true n a b h g f = (h, g, f)
-told-if false n a b h g f = tt
+bounded-if : (fault : Bool) (n a b : ℕ) → Small n a b → Bounded (refuseIf fault n a b)
+unfolding Bounded refuseIf
+bounded-if true n a b h = h
+bounded-if false n a b h = tt
 
 module _ {A B : Type 0} where
-  told-then : (v : Verdict A) (w : Verdict B) → Told v → ((x : A) → v ≡ accepted x → Told w) → Told (v then w)
-  unfolding Told _then_
-  told-then (accepted x) w h g = g x refl
-  told-then (refused n a b) w h g = h
+  bounded-then : (v : Verdict A) (w : Verdict B) → Bounded v → ((x : A) → v ≡ accepted x → Bounded w) → Bounded (v then w)
+  unfolding Bounded _then_
+  bounded-then (accepted x) w h g = g x refl
+  bounded-then (refused n a b) w h g = h
 
-  told-onwards : (v : Verdict A) (f : A → Verdict B) → Told v → ((x : A) → v ≡ accepted x → Told (f x)) → Told (onwards v f)
-  unfolding Told onwards
-  told-onwards (accepted x) f h g = g x refl
-  told-onwards (refused n a b) f h g = h
+  bounded-onwards : (v : Verdict A) (f : A → Verdict B) → Bounded v → ((x : A) → v ≡ accepted x → Bounded (f x)) → Bounded (onwards v f)
+  unfolding Bounded onwards
+  bounded-onwards (accepted x) f h g = g x refl
+  bounded-onwards (refused n a b) f h g = h
 
-told-accepted : {A : Type 0} (x : A) → Told (accepted x)
-unfolding Told
-told-accepted x = tt
+bounded-accepted : {A : Type 0} (x : A) → Bounded (accepted x)
+unfolding Bounded
+bounded-accepted x = tt
 
-told-more : {A : Type 0} (x : A) (v : Verdict (List A)) → Told v → Told (more x v)
-unfolding Told more
-told-more x (accepted xs) h = tt
-told-more x (refused n a b) h = h
+bounded-more : {A : Type 0} (x : A) (v : Verdict (List A)) → Bounded v → Bounded (more x v)
+unfolding Bounded more
+bounded-more x (accepted xs) h = tt
+bounded-more x (refused n a b) h = h
 
-told-cond : {A : Type 0} (c : Bool) (v w : Verdict A) → Told v → Told w → Told (cond c v w)
-told-cond true v w h g = h
-told-cond false v w h g = g
+bounded-cond : {A : Type 0} (c : Bool) (v w : Verdict A) → Bounded v → Bounded w → Bounded (cond c v w)
+bounded-cond true v w h g = h
+bounded-cond false v w h g = g
 
-told-each : (f : ℕ → Test) (i n : ℕ) → ((k : ℕ) → i ≤ k → k < i + n → Told (f k)) → Told (each f i n)
+bounded-each : (f : ℕ → Test) (i n : ℕ) → ((k : ℕ) → i ≤ k → k < i + n → Bounded (f k)) → Bounded (each f i n)
 unfolding each
-told-each f i zero h = told-accepted tt
-told-each f i (suc n) h = told-then (f i) (each f (suc i) n) (h i (omega arith) (omega arith)) (λ _ _. told-each f (suc i) n (λ k a b. h k (omega arith) (omega arith)))
+bounded-each f i zero h = bounded-accepted tt
+bounded-each f i (suc n) h = bounded-then (f i) (each f (suc i) n) (h i (omega arith) (omega arith)) (λ _ _. bounded-each f (suc i) n (λ k a b. h k (omega arith) (omega arith)))
 
 -- ---- fields: the figure is the field's place
 
-module _ (s : List ℕ) (at : ℕ) (h : at ≤ farthest) where
-  place-told : (fault : Bool) (n : ℕ) → n ≤ 9 → Told (refuseIf fault n at 0)
-  place-told fault n g = told-if fault n at 0 g h (omega arith)
+module _ (at : ℕ) (h : at ≤ farthest) where
+  place-bounded : (fault : Bool) (n : ℕ) → 1 ≤ n → n ≤ 9 → Bounded (refuseIf fault n at 0)
+  place-bounded fault n low high = bounded-if fault n at 0 (record { low = low; high = high; first = h; second = omega arith })
 
-  needed-told : Told (needed s at)
-  unfolding needed
-  needed-told = place-told (leb (length s) at) ORDER (omega arith)
-
-  header-told : Told (header s at)
-  unfolding header
-  header-told = place-told (ltb (length s) (at + 3)) SHORT (omega arith)
-
-  due-told : (tag : ℕ) → Told (due s at tag)
-  unfolding due
-  due-told tag = place-told (not (eqb (num8 s at) tag)) ORDER (omega arith)
-
-  many-told : (left : ℕ) → Told (notMany at left)
+  many-bounded : (left : ℕ) → Bounded (notMany at left)
   unfolding notMany
-  many-told left = place-told (eqb left 0) MANY (omega arith)
+  many-bounded left = place-bounded (eqb left 0) MANY (omega arith) (omega arith)
 
-  sized-told : (size : ℕ) → Told (sized s at size)
-  unfolding sized
-  sized-told size = place-told (not (eqb (num16 s (at + 1)) size)) SIZE (omega arith)
-
-  complete-told : (size : ℕ) → Told (complete s at size)
-  unfolding complete
-  complete-told size = place-told (ltb (length s) (at + 3 + size)) SHORT (omega arith)
-
-  ranged-told : (ok : Bool) → Told (ranged ok at)
+  ranged-bounded : (ok : Bool) → Bounded (ranged ok at)
   unfolding ranged
-  ranged-told ok = place-told (not ok) RANGE (omega arith)
+  ranged-bounded ok = place-bounded (not ok) RANGE (omega arith) (omega arith)
+
+module _ (s : List ℕ) (at : ℕ) (h : at ≤ farthest) where
+  needed-bounded : Bounded (needed s at)
+  unfolding needed
+  needed-bounded = place-bounded at h (leb (length s) at) ORDER (omega arith) (omega arith)
+
+  header-bounded : Bounded (header s at)
+  unfolding header
+  header-bounded = place-bounded at h (ltb (length s) (at + 3)) SHORT (omega arith) (omega arith)
+
+  due-bounded : (tag : ℕ) → Bounded (due s at tag)
+  unfolding due
+  due-bounded tag = place-bounded at h (not (eqb (num8 s at) tag)) ORDER (omega arith) (omega arith)
+
+  sized-bounded : (size : ℕ) → Bounded (sized s at size)
+  unfolding sized
+  sized-bounded size = place-bounded at h (not (eqb (num16 s (at + 1)) size)) SIZE (omega arith) (omega arith)
+
+  complete-bounded : (size : ℕ) → Bounded (complete s at size)
+  unfolding complete
+  complete-bounded size = place-bounded at h (ltb (length s) (at + 3 + size)) SHORT (omega arith) (omega arith)
 
   module _ (tag size : ℕ) (ok : Bool) where
-    value-told : Told (sized s at size then complete s at size then ranged ok at)
-    value-told = told-then _ _ (sized-told size) (λ _ _. told-then _ _ (complete-told size) (λ _ _. ranged-told ok))
+    value-bounded : Bounded (sized s at size then complete s at size then ranged ok at)
+    value-bounded = bounded-then _ _ (sized-bounded size) (λ _ _. bounded-then _ _ (complete-bounded size) (λ _ _. ranged-bounded at h ok))
 
-    field-told : Told (fieldTest s at tag size ok)
-    field-told =
+    field-bounded : Bounded (fieldTest s at tag size ok)
+    field-bounded =
         rw (field-row s at tag size ok)
-        (told-then _ _ needed-told (λ _ _. told-then _ _ header-told (λ _ _. told-then _ _ (due-told tag) (λ _ _. value-told))))
+        (bounded-then _ _ needed-bounded (λ _ _. bounded-then _ _ header-bounded (λ _ _. bounded-then _ _ (due-bounded tag) (λ _ _. value-bounded))))
 
-    repeat-told : (left : ℕ) → Told (repeatTest s at left tag size ok)
-    repeat-told left =
+    repeat-bounded : (left : ℕ) → Bounded (repeatTest s at left tag size ok)
+    repeat-bounded left =
         rw (repeat-row s at tag size ok left)
-        (told-then _ _ header-told (λ _ _. told-then _ _ (due-told tag) (λ _ _. told-then _ _ (many-told left) (λ _ _. value-told))))
+        (bounded-then _ _ header-bounded (λ _ _. bounded-then _ _ (due-bounded tag) (λ _ _. bounded-then _ _ (many-bounded at h left) (λ _ _. value-bounded))))
 
 module _ {A : Type 0} (tag size : ℕ) (ok : A → Bool) (value : List ℕ → ℕ → A) (s : List ℕ) where
   -- one field, and what comes behind it
-  next-told : (left at : ℕ) (rest : Verdict (List A)) → at ≤ farthest → Told rest
-      → Told (cond (leb (length s) at) (accepted []) (repeatTest s at left tag size (ok (value s at)) then rest))
-  next-told left at rest h g =
-      told-cond (leb (length s) at) (accepted []) (repeatTest s at left tag size (ok (value s at)) then rest) (told-accepted [])
-      (told-then _ rest (repeat-told s at h tag size (ok (value s at)) left) (λ _ _. g))
+  next-bounded : (left at : ℕ) (rest : Verdict (List A)) → at ≤ farthest → Bounded rest
+      → Bounded (cond (leb (length s) at) (accepted []) (repeatTest s at left tag size (ok (value s at)) then rest))
+  next-bounded left at rest h g =
+      bounded-cond (leb (length s) at) (accepted []) (repeatTest s at left tag size (ok (value s at)) then rest) (bounded-accepted [])
+      (bounded-then _ rest (repeat-bounded s at h tag size (ok (value s at)) left) (λ _ _. g))
 
-  fields-told : (left at : ℕ) → at + left * (3 + size) ≤ farthest → Told (fieldsFrom tag size ok value s left at)
-  fields-told zero at h = rw (fields-end tag size ok value s at) (next-told 0 at (accepted []) (omega arith) (told-accepted []))
-  fields-told (suc left) at h =
+  fields-bounded : (left at : ℕ) → at + left * (3 + size) ≤ farthest → Bounded (fieldsFrom tag size ok value s left at)
+  fields-bounded zero at h = rw (fields-end tag size ok value s at) (next-bounded 0 at (accepted []) (omega arith) (bounded-accepted []))
+  fields-bounded (suc left) at h =
       rw (fields-next tag size ok value s left at)
-      (next-told (suc left) at (more (value s at) (fieldsFrom tag size ok value s left (at + 3 + size))) (omega arith)
-      (told-more (value s at) _ (fields-told left (at + 3 + size) (omega arith))))
+      (next-bounded (suc left) at (more (value s at) (fieldsFrom tag size ok value s left (at + 3 + size))) (omega arith)
+      (bounded-more (value s at) _ (fields-bounded left (at + 3 + size) (omega arith))))
 
 -- ---- CLASH and RACE: the figures are numbers of operations
 
@@ -124,40 +134,84 @@ module _ {A : Type 0} (tag size : ℕ) (ok : A → Bool) (value : List ℕ → �
 abbrev pair : (Op → Op → Bool) → ℕ → Table → ℕ → ℕ → Test
 pair hit n T i j = refuseIf (hit (op T i) (op T j)) n i j
 
-pairs-told : (hit : Op → Op → Bool) (n : ℕ) (T : Table) → n ≤ 9 → nops T ≤ 32 → Told (pairsTest hit n T)
+pairs-bounded : (hit : Op → Op → Bool) (n : ℕ) (T : Table) → 1 ≤ n → n ≤ 9 → nops T ≤ 32 → Bounded (pairsTest hit n T)
 unfolding pairsTest
-pairs-told hit n T h few =
-    told-each (λ i. each (pair hit n T i) (suc i) (nops T - suc i)) 0 (nops T)
-    (λ i _ b. told-each (pair hit n T i) (suc i) (nops T - suc i) (λ j _ d. told-if (hit (op T i) (op T j)) n i j h (omega arith) (omega arith)))
+pairs-bounded hit n T low high few =
+    bounded-each (λ i. each (pair hit n T i) (suc i) (nops T - suc i)) 0 (nops T)
+    (λ i _ b. bounded-each (pair hit n T i) (suc i) (nops T - suc i) (λ j _ d. bounded-if (hit (op T i) (op T j)) n i j (record { low = low; high = high; first = omega arith; second = omega arith })))
 
-whole-told : (T : Table) → nops T ≤ 32 → Told (judgeWhole T)
-whole-told T few =
+whole-bounded : (T : Table) → nops T ≤ 32 → Bounded (judgeWhole T)
+whole-bounded T few =
     rw (whole-row T)
-    (told-then _ _ (pairs-told clashes CLASH T (omega arith) few) (λ _ _. told-then _ _ (pairs-told races RACE T (omega arith) few) (λ _ _. told-accepted T)))
+    (bounded-then _ _ (pairs-bounded clashes CLASH T (omega arith) (omega arith) few) (λ _ _. bounded-then _ _ (pairs-bounded races RACE T (omega arith) (omega arith) few) (λ _ _. bounded-accepted T)))
 
 -- ---- a table's bytes
 
 module _ (s : List ℕ) where
-  head-told : Told (headTest s)
-  head-told =
+  head-bounded : Bounded (headTest s)
+  head-bounded =
       rw (head-row s)
-      (told-then _ _ (field-told s 0 (omega arith) 1 2 _)
-      (λ _ _. told-then _ _ (field-told s 5 (omega arith) 2 3 _)
+      (bounded-then _ _ (field-bounded s 0 (omega arith) 1 2 _)
+      (λ _ _. bounded-then _ _ (field-bounded s 5 (omega arith) 2 3 _)
       (λ _ e.
       let few = modes-few (headOf s) (field-passed s 5 2 3 _ e .1) in
-      told-then _ _ (field-told s 11 (omega arith) 3 _ _) (λ _ _. needed-told s (opsPlace (headOf s .modes)) (omega arith)))))
+      bounded-then _ _ (field-bounded s 11 (omega arith) 3 _ _) (λ _ _. needed-bounded s (opsPlace (headOf s .modes)) (omega arith)))))
 
-  judge-told : Told (judge s)
+  pub judge-bounded : Bounded (judge s)
   unfolding opsFrom
-  judge-told =
+  judge-bounded =
       rw (judge-row s)
-      (told-then _ _ head-told
+      (bounded-then _ _ head-bounded
       (λ _ e.
       let few = modes-few (headOf s) (head-ok s e .0 .counts) in
-      told-onwards _ _ (fields-told 4 18 (opOk (headOf s)) opAt s 32 (opsPlace (headOf s .modes)) (omega arith))
-      (λ os come. whole-told (withOps (headOf s) os) (fields-passing 4 18 (opOk (headOf s)) opAt s noOp 32 _ os come .few))))
+      bounded-onwards _ _ (fields-bounded 4 18 (opOk (headOf s)) opAt s 32 (opsPlace (headOf s .modes)) (omega arith))
+      (λ os come. whole-bounded (withOps (headOf s) os) (fields-passing 4 18 (opOk (headOf s)) opAt s noOp 32 _ os come .few))))
+
+-- ---- a table handed over as numbers
+
+ops-bounded : (T : Table) (ns : List ℕ) (left at : ℕ) → at + left * 21 ≤ farthest → Bounded (opsOfNumbers T ns left at)
+ops-bounded T ns zero at h =
+    rw (numbers-end T ns at)
+    (bounded-cond (eqb (length ns) 0) (accepted []) (notMany at 0 then accepted []) (bounded-accepted [])
+    (bounded-then _ _ (many-bounded at (omega arith) 0) (λ _ _. bounded-accepted [])))
+ops-bounded T ns (suc left) at h =
+    rw (numbers-next T ns left at)
+    (bounded-cond (eqb (length ns) 0) (accepted []) _ (bounded-accepted [])
+    (bounded-then _ _ (place-bounded at (omega arith) (ltb (length ns) 6) SHORT (omega arith) (omega arith))
+    (λ _ _. bounded-then _ _ (ranged-bounded at (omega arith) (opOk T (opOfNumbers ns)))
+    (λ _ _. bounded-more (opOfNumbers ns) _ (ops-bounded T (drop 6 ns) left (at + 21) (omega arith))))))
+
+module _ (N : Numbers) where
+  first-bounded : Bounded (numbersTest N)
+  first-bounded =
+      rw (numbers-row N)
+      (bounded-then _ _ (ranged-bounded 0 (omega arith) (lenOk (N .len)))
+      (λ _ _. bounded-then _ _ (ranged-bounded 5 (omega arith) (countsOk (N .boards) (N .cells) (N .modes)))
+      (λ _ e.
+      let few = modes-few (headOfNumbers N) (range-passed _ 5 e) in
+      bounded-then _ _ (place-bounded 11 (omega arith) (not (eqb (length (N .follow)) (N .modes))) SIZE (omega arith) (omega arith))
+      (λ _ _. bounded-then _ _ (ranged-bounded 11 (omega arith) (setOk (N .modes) (N .first) && eachSetOk (N .modes) (N .follow)))
+      (λ _ _. place-bounded (opsPlace (N .modes)) (omega arith) (eqb (length (N .ops)) 0) ORDER (omega arith) (omega arith))))))
+
+  pub numbers-bounded : Bounded (judgeNumbers N)
+  numbers-bounded =
+      rw (judgeNumbers-row N)
+      (bounded-then _ _ first-bounded
+      (λ _ e.
+      let few = modes-few (headOfNumbers N) (numbers-ok N e .0 .counts) in
+      bounded-onwards _ _ (ops-bounded (headOfNumbers N) (N .ops) 32 (opsPlace (N .modes)) (omega arith))
+      (λ os come. whole-bounded (withOps (headOfNumbers N) os) (numbers-passing _ (N .ops) 32 _ os come .few))))
+
+-- ---- a reply's bytes
+
+pub reply-bounded : (s : List ℕ) → Bounded (judgeReply s)
+unfolding rowsFrom
+reply-bounded s =
+    rw (reply-row s)
+    (bounded-then _ _ (bounded-then _ _ (field-bounded s 0 (omega arith) 17 2 _) (λ _ _. needed-bounded s 5 (omega arith)))
+    (λ _ _. bounded-onwards _ _ (fields-bounded 18 4 (rowOk (ticks (num16 s 3))) rowAt s 32 5 (omega arith)) (λ rs _. bounded-accepted _)))
 
 -- a refusal of a table's bytes
-pub figures-small : (s : List ℕ) (n a b : ℕ) → judge s ≡ refused n a b → (n ≤ 9) × (a ≤ farthest) × (b ≤ farthest)
-unfolding Told
-figures-small s n a b e = subst (λ (v : Verdict Table). Told v) e (judge-told s)
+pub figures-small : (s : List ℕ) (n a b : ℕ) → judge s ≡ refused n a b → Small n a b
+unfolding Bounded
+figures-small s n a b e = subst (λ (v : Verdict Table). Bounded v) e (judge-bounded s)

@@ -509,7 +509,7 @@ module _ (T : Table) where
   numbers-next ns left at = refl
 
   -- numbers of operations that are accepted are six for each
-  numbers-passing : (ns : List ℕ) (left at : ℕ) (os : List Op) → opsOfNumbers T ns left at ≡ accepted os → Passing (opOk T) noOp 6 left (length ns) os
+  pub numbers-passing : (ns : List ℕ) (left at : ℕ) (os : List Op) → opsOfNumbers T ns left at ≡ accepted os → Passing (opOk T) noOp 6 left (length ns) os
   unfolding notMany
   numbers-passing ns zero at os e =
       both _ (sym (numbers-end ns at) ∙ e)

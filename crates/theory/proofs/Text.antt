@@ -11,14 +11,13 @@ use borrow.Author.Tests.{lt-ltb, le-ltb}
 use Rattle.rules.specs.Table.{Table, nops, op, noOp, Accepted}
 use Rattle.rules.specs.Rows.{Row, Reply, replyOf}
 use Rattle.rules.specs.Verdicts.{Verdict, accepted, refused}
-use Rattle.rules.specs.Bytes.{farthest}
 use Rattle.rules.specs.Judge.{judge}
 use Rattle.rules.specs.Text.{digits, decimal, periodWord, opWord, startWord, fstWord, refusedWord, space, newline, rowLine, rowLines, periodLine, refusedLine, replyText, textOf, longestText}
 use Rattle.rules.specs.Answers.{Answers, Planned, ReplyTo}
 use Rattle.rules.specs.Bench.{All, k1-bytes}
 use Rattle.theory.specs.Tests.{planOf}
 use Rattle.theory.proofs.Judging.{judge-accepted}
-use Rattle.theory.proofs.Figures.{figures-small}
+use Rattle.theory.proofs.Figures.{Small, figures-small}
 use Rattle.theory.proofs.Replies.{folded}
 
 -- ---- the digits, one by one
@@ -283,13 +282,13 @@ module _ (T : Table) (q : ℕ) (ok : Accepted T) where
 
 -- whatever was judged, with small figures where it was refused
 answer-longest : (u : Verdict Table) (v : Verdict Reply) → ((T : Table) → u ≡ accepted T → Accepted T)
-    → ((n a b : ℕ) → u ≡ refused n a b → (n ≤ 9) × (a ≤ farthest) × (b ≤ farthest)) → Answers Planned u v → length (textOf v) ≤ longestText
+    → ((n a b : ℕ) → u ≡ refused n a b → Small n a b) → Answers Planned u v → length (textOf v) ≤ longestText
 unfolding Answers textOf
 answer-longest (accepted T) v good small (R, (q, period, e), f) =
     rw (f ∙ ap accepted e) (reply-longest T q (good T refl) (period .high))
 answer-longest (refused n a b) v good small e =
-    let (h, g, f) = small n a b refl in
-    rw e (omega (arith, refused-short n a b (omega arith) (omega arith) (omega arith)))
+    let fig = small n a b refl in
+    rw e (omega (arith, refused-short n a b (omega (arith, fig .high)) (omega (arith, fig .first)) (omega (arith, fig .second))))
 
 -- the text for a table's bytes
 pub text-longest : (s : List ℕ) (v : Verdict Reply) → ReplyTo s v → length (textOf v) ≤ longestText
