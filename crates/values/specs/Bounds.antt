@@ -18,7 +18,8 @@ pub record IsBound (T : Table) (R r : ℕ) : Type 0 where
   pub high : r ≤ T .len
   pub exact : (q : ℕ) → 1 ≤ q → (valuesFine T R q ≡ true) ↔ (r ≤ q)
 
--- a value is in time at every distance from n + 1 on, for a value that has come to the modes `modes` after n turns and is written over in those of w
+-- at q, what is written at `end` is there for every reader at every distance from n + 1 on, when it has come to the modes `modes` after n
+-- turns and is written over in those of w
 unfoldable pub TurnsFine : Table → List ℕ → ℕ → ℕ → ℕ → ℕ → ℕ → Type 0
 TurnsFine T fresh w end n modes q = (m : ℕ) → Each (ReaderFine T fresh (via (T .follow) w m modes) end (n + m)) (nops T) q
 
