@@ -1,5 +1,4 @@
 // The lines of the text: numbers in decimal behind words, each line at a place in a buffer.
-ghost use mathlib.Core.Path.{_≡_};
 ghost use mathlib.Core.List.{_++_};
 ghost use Prim.Native.Nat.{_+_, _<_, _≤_};
 ghost use lib.ListN.{length};

@@ -22,7 +22,7 @@ use Rattle.rules.specs.Verdicts.{Verdict, accepted, refused, Test, _then
 use Rattle.rules.specs.Bytes.{tableBytes, longestTable, joined, replyBytes, startsBytes}
 use Rattle.rules.specs.Judge.{opsFrom, judge, judgeNumbers, judgeReply}
 use Rattle.rules.specs.Text.{replyText, textOf}
-use Rattle.rules.specs.Answers.{put, written, bytesOf, IsUnfold, marginTest}
+use Rattle.rules.specs.Answers.{put, written, Answers, bytesOf, IsText, IsUnfold, marginTest}
 use Rattle.rules.specs.Bench.{opn, oneMode, k1, k1-bytes, k2, k3, k4, k5, k6, k7, k8, k9, k10, k10-touching, row}
 
 -- ---- members of small sets
@@ -600,6 +600,11 @@ k2-text = refl
 many-text : textOf (refused 5 694 0) ≡ 114 ∷ 101 ∷ 102 ∷ 117 ∷ 115 ∷ 101 ∷ 100 ∷ 32 ∷ 53 ∷ 32 ∷ 54 ∷ 57 ∷ 52 ∷ 32 ∷ 48 ∷ 10 ∷ []
 unfolding textOf
 many-text = refl
+
+-- the text for "Empty input: refused 2 0 0"
+pub empty-text : IsText [] (114 ∷ 101 ∷ 102 ∷ 117 ∷ 115 ∷ 101 ∷ 100 ∷ 32 ∷ 50 ∷ 32 ∷ 48 ∷ 32 ∷ 48 ∷ 10 ∷ [])
+unfolding Answers judge textOf
+empty-text = (refused 2 0 0, refl, refl)
 
 -- ---- questions about K1: "i, j, n, q, places 0 to 3"
 ask : ℕ → ℕ → ℕ → ℕ → Test

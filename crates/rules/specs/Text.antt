@@ -76,6 +76,6 @@ unfolding replyText refusedLine
 textOf (accepted R) = replyText R
 textOf (refused number a b) = refusedLine number a b
 
--- no text is longer: 12 bytes for the period's line, and 24 for each of 32 rows
+-- no text for a table's bytes is longer: 12 bytes for the period's line, and 24 for each of 32 rows
 abbrev pub longestText : ℕ
 longestText = 780

@@ -85,7 +85,7 @@ module _ (s : List ℕ) where
     rows-there h = sym (reply-heard ∙ then-accepts rows (then-accepts (needed s 5) (sym len) ∙ needed-yes s 5 h))
 
   -- what is accepted is a reply
-  pub heard-reply : heard (judgeReply s) ≡ accepted tt → (R : Reply) × (judgeReply s ≡ accepted R)
+  heard-reply : heard (judgeReply s) ≡ accepted tt → (R : Reply) × (judgeReply s ≡ accepted R)
   unfolding heard
   heard-reply e = let (R, come, _) = onwards-first (judgeReply s) _ e in (R, come)
 

@@ -101,7 +101,7 @@ fn start_at(s: &[u8], at: usize) -> Ticks
 
 // The starts of all n rows, from the front of the buffer.
 fn put_starts(s: &[u8], out: &mut [u8], n: usize)
-    requires { ⌜ (heard (judgeReply (now s)) ≡ accepted tt) × (length (now s) ≡ 5 + 7 * n) × (2 * n ≤ length (now out)) ⌝ }
+    requires { ⌜ (length (now s) ≡ 5 + 7 * n) × (2 * n ≤ length (now out)) ⌝ }
     ensures { λ _. ⌜ StartsStored (now (s .entry)) n (now (out .entry)) (now (out .exit)) ⌝ }
 {
     let mut i: usize = 0;

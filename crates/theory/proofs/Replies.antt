@@ -122,7 +122,6 @@ pub record ReplyIn (s : List ℕ) (R : Reply) : Type 0 where
   pub high : num16 s 3 ≤ 1000
   pub size : length s ≡ 5 + 7 * length (R .rows)
   pub row : (d : Row) (i : ℕ) → i < length (R .rows) → getD (R .rows) i d ≡ rowAt s (5 + 7 * i)
-  pub near : (i : ℕ) → i < length (R .rows) → unfoldAt (ticks (num16 s 3)) (rowAt s (5 + 7 * i)) .number ≤ 999
 
 module _ (s : List ℕ) where
   -- the rows of tests that the judgement of a reply is
@@ -147,7 +146,6 @@ module _ (s : List ℕ) where
         high = ranges .1;
         size = omega (arith, passing .filled);
         row = row;
-        near = λ i h. says-row q (rowAt s (5 + 7 * i)) .0 (ap (rowOk q) (sym (row d i h)) ∙ passing .each i h) .1;
       }
 
   pub reply-in : (R : Reply) → judgeReply s ≡ accepted R → ReplyIn s R

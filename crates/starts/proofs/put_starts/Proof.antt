@@ -24,24 +24,24 @@ loop-holds : tie.Need-loop-holds Inv-loop μ-loop
 loop-holds c = let a = c .before .before .args in (omega arith, refl, starts-none (now (a .s)) (now (a .out)))
 
 mul-start-at : tie.Need-mul-start-at Inv-loop μ-loop
-mul-start-at c = let st = c .before .before .before .before in omega (arith, st .pre .1, st .good .0 .0)
+mul-start-at c = let st = c .before .before .before .before in omega (arith, st .pre .0, st .good .0 .0)
 
 add-start-at : tie.Need-add-start-at Inv-loop μ-loop
-add-start-at c = let st = c .before .before .before .before in omega (arith, st .pre .1, st .good .0 .0)
+add-start-at c = let st = c .before .before .before .before in omega (arith, st .pre .0, st .good .0 .0)
 
 start-at-requires : tie.Need-start-at-requires Inv-loop μ-loop
 start-at-requires c κs =
-    let st = c .before .before .before .before in (omega (arith, st .pre .1), omega (arith, st .pre .1))
+    let st = c .before .before .before .before in (omega (arith, st .pre .0), omega (arith, st .pre .0))
 
 mul-put16 : tie.Need-mul-put16 Inv-loop μ-loop
-mul-put16 c = let st = c .before .before .before .before .before .before in omega (arith, st .pre .1, st .good .0 .0)
+mul-put16 c = let st = c .before .before .before .before .before .before in omega (arith, st .pre .0, st .good .0 .0)
 
 put16-requires : tie.Need-put16-requires Inv-loop μ-loop
 put16-requires c κs =
     let l = c .before .before .before .loop in
     let st = c .before .before .before .before .before .before in
     let long : length (l .out) ≡ length (st .args .out .now) = l .inv .1 in
-    omega (arith, st .pre .2)
+    omega (arith, st .pre .1)
 
 add-i : tie.Need-add-i Inv-loop μ-loop
 add-i c = omega arith
@@ -57,7 +57,7 @@ loop-again c =
     let st = c .before .before .before .before .before .before .before .before .before in (
       omega arith,
       (ap length (put .ensures) ∙ simp stored-length) ∙ l .inv .1,
-      starts-turn (now (st .args .s)) (now (st .args .out)) (st .args .n) (l .i) _ _ (st .pre .1) (omega arith) (l .inv .2)
+      starts-turn (now (st .args .s)) (now (st .args .out)) (st .args .n) (l .i) _ _ (st .pre .0) (omega arith) (l .inv .2)
           (put .ensures ∙ ap (λ (t : Ticks). stored (l .out) (2 * l .i) (be16 (t .number))) (start .ensures)),
     )
 

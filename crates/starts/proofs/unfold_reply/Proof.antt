@@ -24,7 +24,7 @@ returns c =
 put-starts-requires : tie.Need-put-starts-requires
 put-starts-requires c κs =
     let st = c .before .before .before .before in
-    (st .pre, heard-size _ (st .pre), c .before .if1 .left)
+    (heard-size _ (st .pre), c .before .if1 .left)
 
 mul-t4 : tie.Need-mul-t4
 mul-t4 c = search needs

@@ -1,9 +1,9 @@
 -- The line is written into zeros, which are more than it has bytes.
 -- Assumes nothing.
 use Prim.Native.Nat.{_^_, _<_, _≤_}
-use mathlib.Core.Path.{sym, ap, subst, _∙_}
+use mathlib.Core.Path.{sym, ap, _∙_}
 use native.Mathlib.Omega.{arith}
-use lib.ListN.{length, length-replicate}
+use lib.ListN.{length}
 use Rattle.rules.specs.Text.{refusedLine, longestText}
 use Rattle.theory.proofs.Text.{refused-short}
 use Rattle.fields.specs.RefusalLaws.{refusal-at}
