@@ -9,7 +9,7 @@ use Rattle.rules.specs.Verdicts.{Verdict}
 use Rattle.rules.specs.Judge.{judge, Numbers, judgeNumbers}
 use Rattle.rules.specs.Answers.{Written, IsPlan, IsFold, IsUnfold, IsWrite, IsMargin, IsPeriodOf, IsRight}
 use Rattle.fields.specs.declared.Figures.{Figures}
-use Rattle.telling.specs.Telling.{toldOf, unwritten, yesOf, Ended, endedOf, marginEnded}
+use Rattle.telling.specs.Telling.{toldOf, unwritten, yesOf, Ended, endedOf, endedWith}
 
 -- trevozhil_judge, on a table's bytes
 abbrev pub JudgeTells : List ℕ → Figures → Type 0
@@ -49,4 +49,4 @@ RightTells s q f = (v : Verdict Bool) × IsRight s q v × (f ≡ toldOf (yesOf v
 
 -- trevozhil_margin, with a place lent for the margin
 abbrev pub MarginEnds : List ℕ → ℕ → ℕ → ℕ → ℕ → ℤ → Ended ℤ → Type 0
-MarginEnds s i j n q before l = (v : Verdict ℤ) × IsMargin s i j n q v × (l ≡ marginEnded v before)
+MarginEnds s i j n q before l = (v : Verdict ℤ) × IsMargin s i j n q v × (l ≡ endedWith v before)

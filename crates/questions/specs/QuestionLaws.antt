@@ -1,11 +1,10 @@
 -- A question about q goes on from the verdict on the table: ASK, or the table with what is known of it then.
 -- Assumes nothing.
 use Prim.Native.Nat.{ℕ, _≤_}
-use mathlib.Core.Path.{_≡_, sym, ap, subst, subst⁻¹, _∙_}
+use mathlib.Core.Path.{_≡_, ap, subst, subst⁻¹}
 use mathlib.Core.List.{List}
-use native.Mathlib.Omega.{arith}
 use Rattle.rules.specs.Table.{Table}
-use Rattle.rules.specs.Verdicts.{Verdict, accepted, refused, ASK, _then_}
+use Rattle.rules.specs.Verdicts.{Verdict, accepted, ASK, _then_}
 use Rattle.rules.specs.Answers.{periodAsked}
 use Rattle.theory.specs.Tests.{askedTable}
 use Rattle.theory.proofs.Verdicts.{then-accepts, then-refuses}
@@ -29,7 +28,7 @@ module _ (T : Table) (q : ℕ) {t : code.Table} where
   asked-granted l h e = granted T (then-accepts (accepted T) (asked-in q (T .len) 0 l h)) e
 
 -- what is known of a table that may be asked about q
-pub record Asked (s : List ℕ) (q : ℕ) (t : code.Table) : Type 0 where
+pub record Askable (s : List ℕ) (q : ℕ) (t : code.Table) : Type 0 where
   pub table : Table
   pub said : askedTable s q ≡ accepted table
   pub same : tableOf t ≡ table
@@ -37,7 +36,7 @@ pub record Asked (s : List ℕ) (q : ℕ) (t : code.Table) : Type 0 where
   pub low : 1 ≤ q
   pub high : q ≤ t .len
 
-pub asked-accepted : (s : List ℕ) (q : ℕ) (r : Judged) → JudgedAs (askedTable s q) r → r .verdict ≡ Accepted → Asked s q (r .table)
+pub asked-accepted : (s : List ℕ) (q : ℕ) (r : Judged) → JudgedAs (askedTable s q) r → r .verdict ≡ Accepted → Askable s q (r .table)
 asked-accepted s q r j e =
     let took = judged-accepted (askedTable s q) r j e in
     let (ok, low, high) = question s q (took .table) (took .said) in

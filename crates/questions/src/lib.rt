@@ -22,7 +22,7 @@ pub enum Found {
 // ---- a table and a period asked for
 
 // An accepted table, or ASK with the empty one.
-fn asked_of(t: Table, q: u64) -> Judged
+fn ask_table(t: Table, q: u64) -> Judged
     requires { ⌜ Good t ⌝ }
     ensures { λ r. ⌜ JudgedAs (periodAsked (tableOf t) q 0 then accepted (tableOf t)) r ⌝ }
 {
@@ -39,14 +39,14 @@ fn asked_of(t: Table, q: u64) -> Judged
 }
 
 // The table, where it is accepted and q is from 1 to its length.
-fn asked(s: &[u8], q: u64) -> Judged
+fn ask(s: &[u8], q: u64) -> Judged
     ensures { λ r. ⌜ JudgedAs (askedTable (now (s .entry)) q) r ⌝ }
 {
     let judged = reading::read(s);
     let verdict = judged.verdict;
     match verdict {
         Verdict::Refused(r) => judged,
-        Verdict::Accepted => asked_of(judged.table, q),
+        Verdict::Accepted => ask_table(judged.table, q),
     }
 }
 
@@ -54,7 +54,7 @@ fn asked(s: &[u8], q: u64) -> Judged
 pub fn is_right(s: &[u8], q: u64) -> Truth
     ensures { λ r. ⌜ IsRight (now (s .entry)) q (truthOf r) ⌝ }
 {
-    let judged = asked(s, q);
+    let judged = ask(s, q);
     let verdict = judged.verdict;
     match verdict {
         Verdict::Refused(r) => Truth::Denied(r),

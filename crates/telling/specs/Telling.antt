@@ -39,6 +39,6 @@ abbrev pub endedOf : Written → Ended (List ℕ)
 endedOf w = ended (toldOf (w .answer)) (w .buffer)
 
 -- the margin; on a refusal the place for it stays as it was
-unfoldable pub marginEnded : Verdict ℤ → ℤ → Ended ℤ
-marginEnded (accepted z) before = ended (figuresOf 0 0 0) z
-marginEnded (refused number a b) before = ended (figuresOf number a b) before
+unfoldable pub endedWith : Verdict ℤ → ℤ → Ended ℤ
+endedWith (accepted z) before = ended (figuresOf 0 0 0) z
+endedWith (refused number a b) before = ended (figuresOf number a b) before

@@ -15,7 +15,7 @@ use Rattle.fields.specs.Verdicts.{refusalOf, figuresOf, verdictOn, tested}
 use Rattle.fields.specs.RefusalLaws.{refusal-is, onwards-refusal}
 use Rattle.table.specs.declared.Judged.{Judged}
 use Rattle.table.specs.Tables.{JudgedAs}
-use Rattle.telling.specs.Telling.{toldOf, unwritten, ended, yesOf, marginEnded}
+use Rattle.telling.specs.Telling.{toldOf, unwritten, ended, yesOf, endedWith}
 
 verdict-unwritten : (c : Verdict) → verdictOn c 0 ≡ unwritten (tested c)
 unfolding unwritten
@@ -45,11 +45,11 @@ unfolding yesOf onwards
 refusal-yes r = let (n, a, b, x, y) = refusal-is {A = ℕ} {B = Bool} r in rw (x, y)
 
 -- a margin is told as 0 0 0 and left in its place
-pub margin-told : {f : Figures} {y : ℤ} (z before : ℤ) → f ≡ figuresOf 0 0 0 → y ≡ z → ended f y ≡ marginEnded (accepted z) before
-unfolding marginEnded
+pub margin-told : {f : Figures} {y : ℤ} (z before : ℤ) → f ≡ figuresOf 0 0 0 → y ≡ z → ended f y ≡ endedWith (accepted z) before
+unfolding endedWith
 margin-told z before e f = λ i. ended (e i) (f i)
 
 -- a refusal is told, and the place for the margin stays
-pub margin-kept : (r : Refusal) {f : Figures} (before : ℤ) → f ≡ toldOf (refusalOf r) → ended f before ≡ marginEnded (refusalOf r) before
-unfolding marginEnded
+pub margin-kept : (r : Refusal) {f : Figures} (before : ℤ) → f ≡ toldOf (refusalOf r) → ended f before ≡ endedWith (refusalOf r) before
+unfolding endedWith
 margin-kept r before e = let (n, a, b, x, y) = refusal-is {A = ℕ} {B = ℤ} r in ended-told (e ∙ ap toldOf x) ∙ rw y

@@ -4,7 +4,7 @@ ghost use mathlib.Core.Bool.{cond};
 ghost use Rattle.fields.specs.Verdicts.{figuresOf, verdictOn, answered};
 ghost use Rattle.questions.specs.Questions.{truthOf, foundOf};
 ghost use Rattle.margins.specs.Margins.{measuredOf};
-ghost use Rattle.telling.specs.Telling.{toldOf, yesOf, ended, marginEnded};
+ghost use Rattle.telling.specs.Telling.{toldOf, yesOf, ended, endedWith};
 use fields::Answer;
 use fields::Figures;
 use fields::Verdict;
@@ -64,7 +64,7 @@ pub fn truth_told(x: Truth) -> Figures
 
 // The answer to a question about a margin; the margin is left with the caller.
 pub fn measured_told(x: Measured, margin: &mut i32) -> Figures
-    ensures { λ f. ⌜ ended f (now (margin .exit)) ≡ marginEnded (measuredOf x) (now (margin .entry)) ⌝ }
+    ensures { λ f. ⌜ ended f (now (margin .exit)) ≡ endedWith (measuredOf x) (now (margin .entry)) ⌝ }
 {
     match x {
         Measured::Margin(z) => {

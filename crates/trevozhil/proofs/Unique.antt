@@ -11,7 +11,7 @@ use Rattle.rules.specs.Judge.{judge, Numbers}
 use Rattle.theory.proofs.Period.{period-unique}
 use Rattle.theory.proofs.Answering.{answers-unique, plan-unique, fold-unique, unfold-unique, write-unique, margin-unique, right-unique}
 use Rattle.fields.specs.declared.Figures.{Figures}
-use Rattle.telling.specs.Telling.{Ended, endedOf, toldOf, yesOf, marginEnded}
+use Rattle.telling.specs.Telling.{Ended, endedOf, toldOf, yesOf, endedWith}
 use Rattle.calls.specs.Calls.{JudgeTells, NumbersTell, WriteEnds, PlanEnds, FoldEnds, UnfoldEnds, PeriodTells, RightTells, MarginEnds}
 
 pub judge-one : (s : List ℕ) (f g : Figures) → JudgeTells s f → JudgeTells s g → f ≡ g
@@ -41,4 +41,4 @@ unfold-one s out l m (w, p, e) (x, q, f) = e ∙ ap endedOf (unfold-unique s out
 
 pub margin-one : (s : List ℕ) (i j n q : ℕ) (before : ℤ) (l m : Ended ℤ) → MarginEnds s i j n q before l → MarginEnds s i j n q before m → l ≡ m
 margin-one s i j n q before l m (v, p, e) (u, r, f) =
-    e ∙ ap (λ (x : Verdict ℤ). marginEnded x before) (margin-unique s i j n q v u p r) ∙ sym f
+    e ∙ ap (λ (x : Verdict ℤ). endedWith x before) (margin-unique s i j n q v u p r) ∙ sym f

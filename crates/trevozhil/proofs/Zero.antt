@@ -22,7 +22,7 @@ use Rattle.theory.proofs.Answering.{put-room, put-short, question}
 use Rattle.fields.specs.declared.Figures.{Figures}
 use Rattle.fields.specs.Verdicts.{figuresOf}
 use Rattle.asks.specs.AskLaws.{asked-in}
-use Rattle.telling.specs.Telling.{toldOf, unwritten, yesOf, Ended, ended, endedOf, marginEnded}
+use Rattle.telling.specs.Telling.{toldOf, unwritten, yesOf, Ended, ended, endedOf, endedWith}
 use Rattle.calls.specs.Calls.{JudgeTells, NumbersTell, WriteEnds, PlanEnds, FoldEnds, UnfoldEnds, PeriodTells, RightTells, MarginEnds}
 use Rattle.trevozhil.proofs.Numbered.{Numbered, good, bad, then-numbered, onwards-numbered, judge-numbered, numbers-numbered, reply-numbered, asked-table-numbered, margin-numbered, put-numbered, answers-numbered}
 
@@ -38,7 +38,7 @@ told-zero (accepted n) good = record { success = λ e. (n, refl); zero = λ x. r
 told-zero (refused number a b) (bad h) =
     record { success = λ e. absurd (omega (arith, e, h .0)); zero = λ x. never-refused (x .1); nine = h .1 }
 
--- the same said in other words
+-- the same in other words
 zero-as : {f g : Figures} {P Q : Type 0} → g ≡ f → ZeroAlone f P → (P → Q) → (Q → P) → ZeroAlone g Q
 zero-as {f} {g} {P} {Q} e z to from =
     subst⁻¹ (λ (h : Figures). ZeroAlone h Q) e
@@ -173,28 +173,28 @@ asked-both s q T e =
 
 -- trevozhil_is_right: where the table is accepted and q is from 1 to its length; a is 1 for yes and 0 for no
 pub right-zero : (s : List ℕ) (q : ℕ) (f : Figures) → RightTells s q f
-    → ZeroAlone f ((T : Table) × (judge s ≡ accepted T) × (1 ≤ q) × (q ≤ T .len) × (said : Bool) × RightSaid q T said × (f .a ≡ cond said 1 0))
+    → ZeroAlone f ((T : Table) × (judge s ≡ accepted T) × (1 ≤ q) × (q ≤ T .len) × (is : Bool) × RightSaid q T is × (f .a ≡ cond is 1 0))
 unfolding yesOf
 right-zero s q f (v, r, e) =
-    zero-as e (onwards-zero v (λ said. cond said 1 0) (answers-numbered (RightSaid q) (asked-table-numbered s q) r))
-    (λ (said, x).
+    zero-as e (onwards-zero v (λ is. cond is 1 0) (answers-numbered (RightSaid q) (asked-table-numbered s q) r))
+    (λ (is, x).
     let (T, y, right) = answered-first (RightSaid q) (askedTable s q) v r x in
     let (read, low, high) = asked-both s q T y in
-    (T, read, low, high, said, right, ap (λ (g : Figures). g .a) (e ∙ ap toldOf (onwards-accepts (λ said. accepted (cond said 1 0)) x))))
-    (λ (T, read, low, high, said, right, figure).
+    (T, read, low, high, is, right, ap (λ (g : Figures). g .a) (e ∙ ap toldOf (onwards-accepts (λ is. accepted (cond is 1 0)) x))))
+    (λ (T, read, low, high, is, right, figure).
     answered-back (RightSaid q) (askedTable s q) v r
     (onwards-accepts (λ T. periodAsked T q 0 then accepted T) read ∙ then-accepts (accepted T) (asked-in q (T .len) 0 low high)))
 
 -- what is told of a margin is told of its verdict
-margin-figures : (v : Verdict ℤ) (before : ℤ) → marginEnded v before .told ≡ toldOf (unwritten v)
-unfolding marginEnded unwritten onwards
+margin-figures : (v : Verdict ℤ) (before : ℤ) → endedWith v before .told ≡ toldOf (unwritten v)
+unfolding endedWith unwritten onwards
 margin-figures (accepted z) before = refl
 margin-figures (refused number a b) before = refl
 
 -- trevozhil_margin: where the table is accepted and each number asked for is in its range; the place for the margin holds it
 pub margin-zero : (s : List ℕ) (i j n q : ℕ) (before : ℤ) (l : Ended ℤ) → MarginEnds s i j n q before l
     → ZeroAlone (l .told) ((T : Table) × (judge s ≡ accepted T) × (marginTest T i j n q ≡ accepted tt) × (l ≡ ended (figuresOf 0 0 0) (margin T i j n q)))
-unfolding marginEnded
+unfolding endedWith
 margin-zero s i j n q before l (v, p, e) =
     let asked : Table → Verdict ℤ = λ T. marginTest T i j n q then accepted (margin T i j n q) in
     let numbered = subst⁻¹ Numbered p (onwards-numbered {f = asked} (judge-numbered s) (λ T. then-numbered (margin-numbered T i j n q) good)) in
@@ -204,7 +204,7 @@ margin-zero s i j n q before l (v, p, e) =
           let (found, x) = z .success h in
           let (T, read, row) = onwards-first (judge s) asked (sym p ∙ x) in
           let same : margin T i j n q ≡ found = cc (then-rest (marginTest T i j n q) (accepted (margin T i j n q)) row) in
-          (T, read, then-first (marginTest T i j n q) (accepted (margin T i j n q)) row .1, e ∙ ap (λ (u : Verdict ℤ). marginEnded u before) (x ∙ ap accepted (sym same)));
+          (T, read, then-first (marginTest T i j n q) (accepted (margin T i j n q)) row .1, e ∙ ap (λ (u : Verdict ℤ). endedWith u before) (x ∙ ap accepted (sym same)));
       zero = λ (T, read, test, same). ap (λ (m : Ended ℤ). m .told .number) same;
       nine = z .nine;
     }

@@ -1,6 +1,5 @@
 -- The two tests are the two bounds.
 -- Assumes nothing.
-use Prim.Native.Nat.{_≤_}
 use native.Mathlib.Omega.{arith}
 use mathlib.Core.Bool.{false≢true}
 use borrow.Author.Tests.{leb-true, le-leb}

@@ -11,8 +11,8 @@ use Rattle.table.specs.Tables.{JudgedAs}
 use Rattle.table.specs.JudgedLaws.{judged-accepted, judged-refused, took-good}
 use Rattle.asks.specs.AskLaws.{accepted-on}
 use borrow.Author.Needs.{needs}
-use Rattle.questions.proofs.asked.Statement.{statement}
-use Rattle.questions.proofs.asked.Tie as tie
+use Rattle.questions.proofs.ask.Statement.{statement}
+use Rattle.questions.proofs.ask.Tie as tie
 
 read-requires : tie.Need-read-requires
 read-requires c κs = search needs
@@ -23,8 +23,8 @@ enum-known-verdict c = search needs
 enum-told : tie.Need-enum-told
 enum-told c = search needs
 
-asked-of-requires : tie.Need-asked-of-requires
-asked-of-requires c κs =
+ask-table-requires : tie.Need-ask-table-requires
+ask-table-requires c κs =
     let read = c .before .before .read in
     let took = judged-accepted (judge _) (read .result) (read .ensures) (c .enum-told .given .1) in
     took-good took (judge-accepted _ (took .table) (took .said))
@@ -44,9 +44,9 @@ returns-2 c =
     let took = judged-accepted (judge _) (read .result) (read .ensures) (told .enum-told .given .1) in
     let ok = judge-accepted _ (took .table) (took .said) in
     let q = told .before .before .before .before .args .q in
-    subst (λ (v : Verdict Table). JudgedAs v (c .asked-of .result)) (accepted-on (λ (T : Table). periodAsked T q 0 then accepted T) took ok) (c .asked-of .ensures)
+    subst (λ (v : Verdict Table). JudgedAs v (c .ask-table .result)) (accepted-on (λ (T : Table). periodAsked T q 0 then accepted T) took ok) (c .ask-table .ensures)
 
-pub asked-spec : {M : Type 1} → statement M
-asked-spec =
+pub ask-spec : {M : Type 1} → statement M
+ask-spec =
     tie.close
-    (tie.spec read-requires enum-known-verdict enum-told asked-of-requires returns returns-2)
+    (tie.spec read-requires enum-known-verdict enum-told ask-table-requires returns returns-2)

@@ -5,8 +5,8 @@ use Rattle.table.specs.Tables.{tableOf}
 use Rattle.asks.specs.AskLaws.{range-in, range-out}
 use Rattle.questions.specs.QuestionLaws.{asked-denied, asked-granted}
 use borrow.Author.Needs.{needs}
-use Rattle.questions.proofs.asked_of.Statement.{statement}
-use Rattle.questions.proofs.asked_of.Tie as tie
+use Rattle.questions.proofs.ask_table.Statement.{statement}
+use Rattle.questions.proofs.ask_table.Tie as tie
 
 cast-in-range : tie.Need-cast-in-range
 cast-in-range c = search needs
@@ -31,6 +31,6 @@ returns-2 c =
     let q = range-in (asked .in-range .ensures) (c .if1 .left) in
     asked-granted (tableOf (s .args .t)) (s .args .q) (omega (arith, q .0)) (omega (arith, q .1)) (s .pre .tidy)
 
-pub asked-of-spec : {M : Type 1} → statement M
-asked-of-spec =
+pub ask-table-spec : {M : Type 1} → statement M
+ask-table-spec =
     tie.close (tie.spec cast-in-range in-range-requires empty-requires returns returns-2)
