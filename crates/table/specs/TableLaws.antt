@@ -14,7 +14,7 @@ use Rattle.table.specs.declared.Table.{Table}
 
 -- ---- filled up lists
 module _ {A : Type 0} (n : ℕ) (d : A) (xs : List A) where
-  take-padded : (k : ℕ) → k ≡ length xs → take k (padded n d xs) ≡ xs
+  pub take-padded : (k : ℕ) → k ≡ length xs → take k (padded n d xs) ≡ xs
   unfolding padded
   take-padded k e = take-at xs (replicate (n - length xs) d) k (sym e)
 
