@@ -17,9 +17,9 @@ use Rattle.table.specs.Tables.{padded}
 use Rattle.turns.specs.Turns.{tab}
 use Rattle.turns.specs.TurnLaws.{length-tab, getD-tab}
 use Rattle.cells.specs.Cells.{freshRead, freshSets}
-use Rattle.readers.specs.Readers.{Raised, Each, InTime}
+use Rattle.arrivals.specs.Arrivals.{Raised, Each, InTime}
 use Rattle.values.specs.Bounds.{IsBound, TurnsFine, WriterFine, CellFine}
-use Rattle.readers.specs.RaiseLaws.{raised-up, raised-to, in-time-late}
+use Rattle.arrivals.specs.RaiseLaws.{raised-up, raised-to, in-time-late}
 
 -- ---- a reader's fresh modes: it reads the cell, and the value comes to one of them
 shares-if : (s f : ℕ) (b : Bool) → Says (shares s (cond b f 0)) ((b ≡ true) × (shares s f ≡ true))

@@ -10,7 +10,7 @@ use Rattle.rules.specs.Sets.{has}
 use Rattle.rules.specs.Table.{Table, nops, op, endOf}
 use Rattle.theory.specs.Tests.{via, writers, lastIn, valuesFine}
 use Rattle.cells.specs.Cells.{freshSets}
-use Rattle.readers.specs.Readers.{Each, ReaderFine}
+use Rattle.arrivals.specs.Arrivals.{Each, ReaderFine}
 
 -- r is the smallest period at which every value is in time, in runs through the modes R; every longer one serves too
 pub record IsBound (T : Table) (R r : ℕ) : Type 0 where

@@ -14,9 +14,9 @@ use Rattle.rules.specs.Table.{Table, nops, op}
 use Rattle.theory.specs.Tests.{without, step, via}
 use Rattle.theory.proofs.Sets.{in-none, in-or, in-without, says-shares, says-within}
 use Rattle.theory.proofs.Modes.{in-step}
-use Rattle.readers.specs.Readers.{Raised, Each, InTime, ReaderFine}
+use Rattle.arrivals.specs.Arrivals.{Raised, Each, InTime, ReaderFine}
 use Rattle.values.specs.Bounds.{TurnsFine}
-use Rattle.readers.specs.RaiseLaws.{raised-up}
+use Rattle.arrivals.specs.RaiseLaws.{raised-up}
 
 module _ (T : Table) (fresh : List ℕ) (w end : ℕ) where
   -- the readers n + 1 cycles later, where the value has come to the modes `modes`

@@ -4,7 +4,7 @@ ghost use Prim.Native.Nat.{_<_, _≤_};
 ghost use Rattle.theory.specs.Tests.{writers};
 ghost use Rattle.table.specs.Tables.{tableOf, Good};
 ghost use Rattle.cells.specs.Cells.{freshSets};
-ghost use Rattle.readers.specs.Readers.{Raised};
+ghost use Rattle.arrivals.specs.Arrivals.{Raised};
 ghost use Rattle.values.specs.Bounds.{IsBound, TurnsFine, WriterFine, CellFine};
 use table::Table;
 
@@ -27,7 +27,7 @@ fn ask_turns(t: Table, fresh: [u32; 32], written: u32, from: u32, end: u32, boun
         if sets::without(next, seen) == 0 {
             return most;
         }
-        most = readers::ask_readers(t, fresh, next, end, n, most);
+        most = arrivals::ask_readers(t, fresh, next, end, n, most);
         seen = seen | next;
         modes = sets::without(next, written);
         n += 1;

@@ -6,9 +6,9 @@ use native.Mathlib.Omega.{arith}
 use borrow.Author.Needs.{needs}
 use Rattle.rules.specs.Table.{nops}
 use Rattle.table.specs.Tables.{tableOf}
-use Rattle.readers.specs.Readers.{Raised, Each}
+use Rattle.arrivals.specs.Arrivals.{Raised, Each}
 use Rattle.values.specs.Bounds.{WriterFine}
-use Rattle.readers.specs.RaiseLaws.{raised-up, raised-to, each-none, each-more}
+use Rattle.arrivals.specs.RaiseLaws.{raised-up, raised-to, each-none, each-more}
 use Rattle.table.specs.TableLaws.{good-count, good-few}
 use Rattle.cells.specs.WriteLaws.{within-writers}
 use Rattle.values.specs.BoundLaws.{cell-late}

@@ -9,8 +9,8 @@ use Rattle.rules.specs.Table.{nops}
 use Rattle.theory.specs.Tests.{step}
 use Rattle.table.specs.Tables.{tableOf}
 use Rattle.turns.specs.TurnLaws.{good-step}
-use Rattle.readers.specs.Readers.{Raised, Each, ReaderFine}
-use Rattle.readers.specs.RaiseLaws.{raised-up, raised-to, cycles-fit, in-time-late}
+use Rattle.arrivals.specs.Arrivals.{Raised, Each, ReaderFine}
+use Rattle.arrivals.specs.RaiseLaws.{raised-up, raised-to, cycles-fit, in-time-late}
 use Rattle.values.specs.CarryLaws.{Carried, carried-none, carried-more, carried-far, carried-seen}
 use Rattle.values.proofs.ask_turns.Statement.{statement}
 use Rattle.values.proofs.ask_turns.Tie as tie

@@ -12,7 +12,7 @@ use Rattle.theory.specs.Tests.{lastIn}
 use Rattle.theory.proofs.Says.{clash-bool}
 use Rattle.table.specs.Tables.{tableOf}
 use Rattle.values.specs.Bounds.{WriterFine}
-use Rattle.readers.specs.RaiseLaws.{raised-not, raised-as}
+use Rattle.arrivals.specs.RaiseLaws.{raised-not, raised-as}
 use Rattle.table.specs.TableLaws.{good-few, op-at, good-op}
 use Rattle.cells.specs.WriteLaws.{within-last}
 use Rattle.values.proofs.ask_writer.Statement.{statement}

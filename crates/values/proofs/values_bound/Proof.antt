@@ -4,9 +4,9 @@ use Prim.Native.Nat.{_-_, _≤_}
 use mathlib.Core.Path.{_≡_}
 use native.Mathlib.Omega.{arith}
 use Rattle.table.specs.Tables.{tableOf}
-use Rattle.readers.specs.Readers.{Raised, Each}
+use Rattle.arrivals.specs.Arrivals.{Raised, Each}
 use Rattle.values.specs.Bounds.{CellFine}
-use Rattle.readers.specs.RaiseLaws.{raised-up, raised-to, each-none, each-more}
+use Rattle.arrivals.specs.RaiseLaws.{raised-up, raised-to, each-none, each-more}
 use Rattle.values.specs.BoundLaws.{cell-late, raised-bound}
 use Rattle.values.proofs.values_bound.Statement.{statement}
 use Rattle.values.proofs.values_bound.Tie as tie

@@ -5,7 +5,7 @@ ghost use Prim.Native.Nat.{_≤_};
 ghost use Rattle.rules.specs.Sets.{shares};
 ghost use Rattle.rules.specs.Table.{nops};
 ghost use Rattle.table.specs.Tables.{tableOf, Good};
-ghost use Rattle.readers.specs.Readers.{Raised, Each, InTime, ReaderFine};
+ghost use Rattle.arrivals.specs.Arrivals.{Raised, Each, InTime, ReaderFine};
 use table::Table;
 
 // The bound, raised until what is written at `end` is in time for a reader that starts n + 1 cycles later, if the value comes to one of its

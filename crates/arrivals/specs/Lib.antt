@@ -1,2 +1,2 @@
-pub mod Readers
+pub mod Arrivals
 pub mod RaiseLaws

@@ -7,7 +7,7 @@ use native.Mathlib.Nat.{mul-comm, mul-le-mul, mul-le-mul-left, mul-le-mul-right,
 use native.Mathlib.Decide.{decLe}
 use native.Mathlib.Omega.{arith}
 use Rattle.theory.proofs.Order.{Cmp, cmp}
-use Rattle.readers.specs.Readers.{Raised, Each, InTime}
+use Rattle.arrivals.specs.Arrivals.{Raised, Each, InTime}
 
 -- ---- raising
 

@@ -7,10 +7,10 @@ use native.Mathlib.Omega.{arith}
 use borrow.Author.Needs.{needs}
 use borrow.Author.Tests.{not-true, not-false}
 use Rattle.theory.proofs.Says.{clash-bool}
-use Rattle.readers.specs.Readers.{InTime}
-use Rattle.readers.specs.RaiseLaws.{raised-not, raised-as, in-time-on, cycles-fit, quotient-asked}
-use Rattle.readers.proofs.ask_reader.Statement.{statement}
-use Rattle.readers.proofs.ask_reader.Tie as tie
+use Rattle.arrivals.specs.Arrivals.{InTime}
+use Rattle.arrivals.specs.RaiseLaws.{raised-not, raised-as, in-time-on, cycles-fit, quotient-asked}
+use Rattle.arrivals.proofs.ask_reader.Statement.{statement}
+use Rattle.arrivals.proofs.ask_reader.Tie as tie
 
 meets-requires : tie.Need-meets-requires
 meets-requires c κs = search needs

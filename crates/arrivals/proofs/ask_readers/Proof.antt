@@ -8,11 +8,11 @@ use lib.ListN.{getD}
 use Rattle.rules.specs.Sets.{shares}
 use Rattle.rules.specs.Table.{Op, nops}
 use Rattle.table.specs.Tables.{tableOf}
-use Rattle.readers.specs.Readers.{Raised, Each, InTime, ReaderFine}
-use Rattle.readers.specs.RaiseLaws.{raised-to, each-none, each-more, in-time-late}
+use Rattle.arrivals.specs.Arrivals.{Raised, Each, InTime, ReaderFine}
+use Rattle.arrivals.specs.RaiseLaws.{raised-to, each-none, each-more, in-time-late}
 use Rattle.table.specs.TableLaws.{good-count, good-few, op-at, good-op}
-use Rattle.readers.proofs.ask_readers.Statement.{statement}
-use Rattle.readers.proofs.ask_readers.Tie as tie
+use Rattle.arrivals.proofs.ask_readers.Statement.{statement}
+use Rattle.arrivals.proofs.ask_readers.Tie as tie
 
 abbrev Inv-loop : tie.InvT-loop
 Inv-loop modes end n bound t fresh most₀ j₀ most j =
