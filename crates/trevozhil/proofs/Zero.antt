@@ -13,9 +13,8 @@ use Rattle.rules.specs.Runs.{IsPeriod}
 use Rattle.rules.specs.Rows.{Reply, replyOf, startsOf, margin}
 use Rattle.rules.specs.Verdicts.{Verdict, accepted, refused, _then_, onwards}
 use Rattle.rules.specs.Bytes.{tableBytes, replyBytes, startsBytes}
-use Rattle.rules.specs.Text.{textOf}
 use Rattle.rules.specs.Judge.{judge, judgeReply, Numbers, judgeNumbers}
-use Rattle.rules.specs.Answers.{Written, put, written, bytesOf, Answers, Planned, ReplyTo, periodAsked, marginTest, RightSaid}
+use Rattle.rules.specs.Answers.{Written, put, written, bytesOf, Answers, Planned, IsText, periodAsked, marginTest, RightSaid}
 use Rattle.theory.specs.Tests.{askedTable}
 use Rattle.theory.proofs.Verdicts.{never-refused, then-accepts, then-first, then-rest, onwards-accepts, onwards-first}
 use Rattle.theory.proofs.Answering.{put-room, put-short, question}
@@ -116,12 +115,12 @@ unfold-zero s out l (w, p, e) = written-zero (λ R. startsBytes (startsOf R)) (j
 
 -- trevozhil_fold: where the text, that of a refused table too, is in the buffer
 pub fold-zero : (s out : List ℕ) (l : Ended (List ℕ)) → FoldEnds s out l
-    → ZeroAlone (l .told) ((v : Verdict Reply) × ReplyTo s v × (l ≡ inFront (textOf v) out))
-fold-zero s out l (w, (v, r, p), e) =
-    let z = put-zero (textOf v) out l (e ∙ ap endedOf p) in
+    → ZeroAlone (l .told) ((text : List ℕ) × IsText s text × (l ≡ inFront text out))
+fold-zero s out l (w, (text, is, p), e) =
+    let z = put-zero text out l (e ∙ ap endedOf p) in
     record {
-      success = λ n. (v, r, z .success n);
-      zero = λ (u, x, front). ap (λ (m : Ended (List ℕ)). m .told .number) front;
+      success = λ n. (text, is, z .success n);
+      zero = λ (t, x, front). ap (λ (m : Ended (List ℕ)). m .told .number) front;
       nine = z .nine;
     }
 
