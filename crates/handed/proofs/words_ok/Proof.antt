@@ -12,13 +12,13 @@ use Rattle.handed.proofs.words_ok.Statement.{statement}
 use Rattle.handed.proofs.words_ok.Tie as tie
 
 abbrev Inv-loop : tie.InvT-loop
-Inv-loop modes follow m₀ m = (m ≤ length follow) × (eachSetOk modes follow ≡ eachSetOk modes (drop m follow))
+Inv-loop modes follow m₀ m = eachSetOk modes follow ≡ eachSetOk modes (drop m follow)
 
 abbrev μ-loop : tie.MeasureT-loop
 μ-loop modes follow m₀ m = length follow - m
 
 loop-holds : tie.Need-loop-holds Inv-loop μ-loop
-loop-holds c = (omega arith, refl)
+loop-holds c = refl
 
 mul-is-set-of : tie.Need-mul-is-set-of Inv-loop μ-loop
 mul-is-set-of c = omega arith
@@ -35,7 +35,7 @@ returns c =
     let f = i .before .before .args .follow .now in
     let n = i .before .before .args .modes in
     let h : i .loop .m < length f = omega arith in
-    sym (i .loop .inv .1 ∙ words-bad n f (i .loop .m) h (sym (c .before .is-set-of .ensures) ∙ not-true _ (c .if1 .taken)))
+    sym (i .loop .inv ∙ words-bad n f (i .loop .m) h (sym (c .before .is-set-of .ensures) ∙ not-true _ (c .if1 .taken)))
 
 add-m : tie.Need-add-m Inv-loop μ-loop
 add-m c = omega arith
@@ -49,14 +49,14 @@ loop-again c =
     let f = i .before .before .args .follow .now in
     let n = i .before .before .args .modes in
     let h : i .loop .m < length f = omega arith in
-    (omega arith, i .loop .inv .1 ∙ words-good n f (i .loop .m) h (sym (c .before .is-set-of .ensures) ∙ not-false _ (c .if1 .left)))
+    i .loop .inv ∙ words-good n f (i .loop .m) h (sym (c .before .is-set-of .ensures) ∙ not-false _ (c .if1 .left))
 
 returns-2 : tie.Need-returns-2 Inv-loop μ-loop
 returns-2 c =
     let i = c .before in
     let f = i .before .before .args .follow .now in
     let h : length f ≤ i .loop .m = omega arith in
-    sym (i .loop .inv .1 ∙ words-end (i .before .before .args .modes) f (i .loop .m) h)
+    sym (i .loop .inv ∙ words-end (i .before .before .args .modes) f (i .loop .m) h)
 
 pub words-ok-spec : {M : Type 1} → statement M
 words-ok-spec =
