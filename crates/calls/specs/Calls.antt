@@ -8,7 +8,7 @@ use lib.IntN.{ℤ}
 use Rattle.rules.specs.Verdicts.{Verdict}
 use Rattle.rules.specs.Judge.{judge, Numbers, judgeNumbers}
 use Rattle.rules.specs.Answers.{Written, IsPlan, IsFold, IsUnfold, IsWrite, IsMargin, IsPeriodOf, IsRight}
-use Rattle.fields.specs.declared.Figures.{Figures}
+use Rattle.figures.specs.declared.Figures.{Figures}
 use Rattle.telling.specs.Telling.{toldOf, unwritten, yesOf, Ended, endedOf, endedWith}
 
 -- trevozhil_judge, on a table's bytes

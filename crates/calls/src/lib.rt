@@ -1,5 +1,5 @@
 // The work of each function for C: the answer, and what its caller is told of it.
-ghost use Rattle.fields.specs.Verdicts.{figuresOf};
+ghost use Rattle.figures.specs.Figures.{figuresOf};
 ghost use Rattle.handed.specs.Handed.{numbers};
 ghost use Rattle.telling.specs.Telling.{ended};
 ghost use Rattle.calls.specs.Calls.{JudgeTells, NumbersTell, WriteEnds, PlanEnds, FoldEnds, UnfoldEnds, PeriodTells, RightTells, MarginEnds};

@@ -7,7 +7,6 @@ use Rattle.rules.specs.Verdicts as rules
 use Rattle.rules.specs.Answers.{Written}
 use Rattle.fields.specs.declared.Refusal.{Refusal}
 use Rattle.fields.specs.declared.Refusal.the-variants.{Short, Order, Size, Range, Many, Clash, Race, Room, Ask}
-use Rattle.fields.specs.declared.Figures.{Figures}
 use Rattle.fields.specs.declared.Answer.{Answer}
 use Rattle.fields.specs.declared.Answer.the-variants.{Wrote, Denied}
 use Rattle.fields.specs.declared.Verdict.{Verdict}
@@ -24,10 +23,6 @@ refusalOf (Clash i j) = refused CLASH i j
 refusalOf (Race i j) = refused RACE i j
 refusalOf (Room n) = refused ROOM n 0
 refusalOf (Ask place) = refused ASK place 0
-
--- an answer in numbers
-abbrev pub figuresOf : ℕ → ℕ → ℕ → Figures
-figuresOf number a b = record { number = number; a = a; b = b }
 
 -- a verdict of the code on x
 abbrev pub verdictOn : {A : Type 0} → Verdict → A → rules.Verdict A

@@ -1,11 +1,10 @@
 // Fields: numbers in bytes, and the tests of one field in document 01's order.
 ghost use mathlib.Core.Path.{_≡_};
-ghost use Prim.Native.Nat.{ℕ, _+_, _<_, _≤_};
+ghost use Prim.Native.Nat.{_+_, _<_, _≤_};
 ghost use lib.ListN.{length};
 ghost use Rattle.rules.specs.Bytes.{num8, num16, num32};
-ghost use Rattle.rules.specs.Verdicts.{refused};
 ghost use Rattle.rules.specs.Judge.{ranged};
-ghost use Rattle.fields.specs.Verdicts.{refusalOf, figuresOf, tested};
+ghost use Rattle.fields.specs.Verdicts.{tested};
 ghost use Rattle.fields.specs.Fields.{sizedOf, fieldOf, repeatOf};
 
 // A refusal: document 01's name, and its a and b where they are not 0.
@@ -30,40 +29,6 @@ pub enum Verdict {
 pub enum Answer {
     Wrote(usize),
     Denied(Refusal),
-}
-
-// An answer in numbers: that of the refusal, or 0, and two figures.
-pub struct Figures {
-    pub number: u32,
-    pub a: u64,
-    pub b: u64,
-}
-
-pub fn numbered(number: u32, a: usize, b: usize) -> Figures
-    ensures { λ f. ⌜ f ≡ figuresOf number a b ⌝ }
-{
-    Figures {
-        number,
-        a: a as u64,
-        b: b as u64,
-    }
-}
-
-// A refusal's number, a and b.
-pub fn figures_of(r: Refusal) -> Figures
-    ensures { λ f. ⌜ refusalOf {A = ℕ} r ≡ refused (f .number) (f .a) (f .b) ⌝ }
-{
-    match r {
-        Refusal::Short(at) => numbered(1, at, 0),
-        Refusal::Order(at) => numbered(2, at, 0),
-        Refusal::Size(at) => numbered(3, at, 0),
-        Refusal::Range(at) => numbered(4, at, 0),
-        Refusal::Many(at) => numbered(5, at, 0),
-        Refusal::Clash(i, j) => numbered(6, i, j),
-        Refusal::Race(i, j) => numbered(7, i, j),
-        Refusal::Room(n) => numbered(8, n, 0),
-        Refusal::Ask(place) => numbered(9, place, 0),
-    }
 }
 
 // The number in one byte.

@@ -5,7 +5,7 @@ ghost use lib.ListN.{length};
 ghost use Rattle.rules.specs.Text.{decimal, rowLine, periodLine, refusedLine};
 ghost use Rattle.rows.specs.Rows.{rowOf};
 ghost use Rattle.lines.specs.Lines.{Puts, lineOf};
-use fields::Figures;
+use figures::Figures;
 use rows::Row;
 use rows::Ticks;
 

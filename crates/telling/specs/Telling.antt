@@ -6,8 +6,8 @@ use mathlib.Core.List.{List}
 use lib.IntN.{ℤ}
 use Rattle.rules.specs.Verdicts.{Verdict, accepted, refused, onwards}
 use Rattle.rules.specs.Answers.{Written}
-use Rattle.fields.specs.declared.Figures.{Figures}
-use Rattle.fields.specs.Verdicts.{figuresOf}
+use Rattle.figures.specs.declared.Figures.{Figures}
+use Rattle.figures.specs.Figures.{figuresOf}
 
 -- the number that is returned, and what a and b hold then: "A refusal returns its number, a and b". Where there is none the number is 0,
 -- a is how many bytes were written, or what was asked for, and b is 0.

@@ -8,10 +8,11 @@ use Rattle.rules.specs.Verdicts.{accepted, refused, onwards}
 use Rattle.rules.specs.Verdicts as rules
 use Rattle.rules.specs.Table.{Table}
 use Rattle.fields.specs.declared.Refusal.{Refusal}
-use Rattle.fields.specs.declared.Figures.{Figures}
+use Rattle.figures.specs.declared.Figures.{Figures}
 use Rattle.fields.specs.declared.Verdict.{Verdict}
 use Rattle.fields.specs.declared.Verdict.the-variants.{Accepted, Refused}
-use Rattle.fields.specs.Verdicts.{refusalOf, figuresOf, verdictOn, tested}
+use Rattle.fields.specs.Verdicts.{refusalOf, verdictOn, tested}
+use Rattle.figures.specs.Figures.{figuresOf}
 use Rattle.fields.specs.RefusalLaws.{refusal-is, onwards-refusal}
 use Rattle.table.specs.declared.Judged.{Judged}
 use Rattle.table.specs.Tables.{JudgedAs}

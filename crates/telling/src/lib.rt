@@ -1,13 +1,14 @@
 // What a C caller is told of the code's answers.
 ghost use mathlib.Core.Path.{_≡_};
 ghost use mathlib.Core.Bool.{cond};
-ghost use Rattle.fields.specs.Verdicts.{figuresOf, verdictOn, answered};
+ghost use Rattle.fields.specs.Verdicts.{verdictOn, answered};
+ghost use Rattle.figures.specs.Figures.{figuresOf};
 ghost use Rattle.questions.specs.Questions.{truthOf, foundOf};
 ghost use Rattle.margins.specs.Margins.{measuredOf};
 ghost use Rattle.telling.specs.Telling.{toldOf, yesOf, ended, endedWith};
 use fields::Answer;
-use fields::Figures;
 use fields::Verdict;
+use figures::Figures;
 use margins::Measured;
 use questions::Found;
 use questions::Truth;
@@ -17,8 +18,8 @@ pub fn verdict_told(v: Verdict) -> Figures
     ensures { λ f. ⌜ f ≡ toldOf (verdictOn v 0) ⌝ }
 {
     match v {
-        Verdict::Accepted => fields::numbered(0, 0, 0),
-        Verdict::Refused(r) => fields::figures_of(r),
+        Verdict::Accepted => figures::numbered(0, 0, 0),
+        Verdict::Refused(r) => figures::figures_of(r),
     }
 }
 
@@ -27,8 +28,8 @@ pub fn answer_told(x: Answer) -> Figures
     ensures { λ f. ⌜ f ≡ toldOf (answered x) ⌝ }
 {
     match x {
-        Answer::Wrote(n) => fields::numbered(0, n, 0),
-        Answer::Denied(r) => fields::figures_of(r),
+        Answer::Wrote(n) => figures::numbered(0, n, 0),
+        Answer::Denied(r) => figures::figures_of(r),
     }
 }
 
@@ -37,8 +38,8 @@ pub fn found_told(x: Found) -> Figures
     ensures { λ f. ⌜ f ≡ toldOf (foundOf x) ⌝ }
 {
     match x {
-        Found::Period(q) => fields::numbered(0, q as usize, 0),
-        Found::Denied(r) => fields::figures_of(r),
+        Found::Period(q) => figures::numbered(0, q as usize, 0),
+        Found::Denied(r) => figures::figures_of(r),
     }
 }
 
@@ -47,9 +48,9 @@ fn yes_told(yes: bool) -> Figures
     ensures { λ f. ⌜ f ≡ figuresOf 0 (cond yes 1 0) 0 ⌝ }
 {
     if yes {
-        return fields::numbered(0, 1, 0);
+        return figures::numbered(0, 1, 0);
     }
-    fields::numbered(0, 0, 0)
+    figures::numbered(0, 0, 0)
 }
 
 // The answer to "is q right".
@@ -58,7 +59,7 @@ pub fn truth_told(x: Truth) -> Figures
 {
     match x {
         Truth::Is(yes) => yes_told(yes),
-        Truth::Denied(r) => fields::figures_of(r),
+        Truth::Denied(r) => figures::figures_of(r),
     }
 }
 
@@ -69,9 +70,9 @@ pub fn measured_told(x: Measured, margin: &mut i32) -> Figures
     match x {
         Measured::Margin(z) => {
             *margin = z;
-            fields::numbered(0, 0, 0)
+            figures::numbered(0, 0, 0)
         }
-        Measured::Denied(r) => fields::figures_of(r),
+        Measured::Denied(r) => figures::figures_of(r),
     }
 }
 

@@ -54,7 +54,7 @@ pub fn refusal_text(r: Refusal) -> Text
     ensures { λ x. ⌜ x ≡ textIn (textOf (refusalOf r)) ⌝ }
 {
     let mut bytes = [0u8; LONGEST];
-    let len = lines::put_refused_line(&mut bytes, 0, fields::figures_of(r));
+    let len = lines::put_refused_line(&mut bytes, 0, figures::figures_of(r));
     Text { bytes, len }
 }
 

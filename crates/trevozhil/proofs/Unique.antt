@@ -10,7 +10,7 @@ use Rattle.rules.specs.Verdicts.{Verdict}
 use Rattle.rules.specs.Judge.{judge, Numbers}
 use Rattle.theory.proofs.Period.{period-unique}
 use Rattle.theory.proofs.Answering.{answers-unique, plan-unique, fold-unique, unfold-unique, write-unique, margin-unique, right-unique}
-use Rattle.fields.specs.declared.Figures.{Figures}
+use Rattle.figures.specs.declared.Figures.{Figures}
 use Rattle.telling.specs.Telling.{Ended, endedOf, toldOf, yesOf, endedWith}
 use Rattle.calls.specs.Calls.{JudgeTells, NumbersTell, WriteEnds, PlanEnds, FoldEnds, UnfoldEnds, PeriodTells, RightTells, MarginEnds}
 

@@ -18,8 +18,8 @@ use Rattle.rules.specs.Answers.{Written, put, written, bytesOf, Answers, Planne
 use Rattle.theory.specs.Tests.{askedTable}
 use Rattle.theory.proofs.Verdicts.{never-refused, then-accepts, then-first, then-rest, onwards-accepts, onwards-first}
 use Rattle.theory.proofs.Answering.{put-room, put-short, question}
-use Rattle.fields.specs.declared.Figures.{Figures}
-use Rattle.fields.specs.Verdicts.{figuresOf}
+use Rattle.figures.specs.declared.Figures.{Figures}
+use Rattle.figures.specs.Figures.{figuresOf}
 use Rattle.asks.specs.AskLaws.{asked-in}
 use Rattle.telling.specs.Telling.{toldOf, unwritten, yesOf, Ended, ended, endedOf, endedWith}
 use Rattle.calls.specs.Calls.{JudgeTells, NumbersTell, WriteEnds, PlanEnds, FoldEnds, UnfoldEnds, PeriodTells, RightTells, MarginEnds}

@@ -1,5 +1,5 @@
 // The functions for C, as include/trevozhil.h declares them. Each is one call.
-ghost use Rattle.fields.specs.Verdicts.{figuresOf};
+ghost use Rattle.figures.specs.Figures.{figuresOf};
 ghost use Rattle.handed.specs.Handed.{numbers};
 ghost use Rattle.telling.specs.Telling.{ended};
 ghost use Rattle.calls.specs.Calls.{JudgeTells, NumbersTell, WriteEnds, PlanEnds, FoldEnds, UnfoldEnds, PeriodTells, RightTells, MarginEnds};

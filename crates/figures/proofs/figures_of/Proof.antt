@@ -1,8 +1,8 @@
 -- In each case the figures are those that `refusalOf` gives it.
 -- Assumes nothing.
 use borrow.Author.Needs.{needs}
-use Rattle.fields.proofs.figures_of.Statement.{statement}
-use Rattle.fields.proofs.figures_of.Tie as tie
+use Rattle.figures.proofs.figures_of.Statement.{statement}
+use Rattle.figures.proofs.figures_of.Tie as tie
 
 enum-known-r : tie.Need-enum-known-r
 enum-known-r c = search needs
