@@ -9,22 +9,21 @@ use Rattle.rules.specs.Answers.{periodAsked}
 use Rattle.theory.specs.Tests.{askedTable}
 use Rattle.theory.proofs.Verdicts.{then-accepts, then-refuses}
 use Rattle.theory.proofs.Answering.{question}
+use Rattle.fields.specs.Verdicts.{refusalOf}
 use Rattle.fields.specs.declared.Refusal.the-variants.{Ask}
-use Rattle.fields.specs.declared.Verdict.the-variants.{Accepted, Refused}
-use Rattle.table.specs.Tables.{JudgedAs, tableOf, tableIn, noTable, Good}
-use Rattle.table.specs.JudgedLaws.{denied, granted, judged-accepted, took-good, took-table}
+use Rattle.fields.specs.declared.Verdict.the-variants.{Accepted}
+use Rattle.table.specs.Tables.{JudgedAs, tableOf, tableIn, Good}
+use Rattle.table.specs.JudgedLaws.{granted, judged-accepted, took-good, took-table}
 use Rattle.table.specs.declared.Table as code
 use Rattle.table.specs.declared.Judged.{Judged}
 use Rattle.asks.specs.AskLaws.{asked-in, asked-out}
 
-module _ (T : Table) (q : ℕ) {t : code.Table} where
+module _ (T : Table) (q : ℕ) where
   -- q is not from 1 to the length
-  pub asked-denied : (1 ≤ q → q ≤ T .len → ⊥) → t ≡ noTable → JudgedAs (periodAsked T q 0 then accepted T) (record { verdict = Refused (Ask 0); table = t })
-  asked-denied out e =
-      subst⁻¹ (λ (v : Verdict Table). JudgedAs v (record { verdict = Refused (Ask 0); table = t })) (then-refuses (accepted T) (asked-out q (T .len) 0 out))
-      (rw e (denied (Ask 0)))
+  pub asked-denied : {r : Judged} → (1 ≤ q → q ≤ T .len → ⊥) → JudgedAs (refusalOf (Ask 0)) r → JudgedAs (periodAsked T q 0 then accepted T) r
+  asked-denied {r} out e = subst⁻¹ (λ (v : Verdict Table). JudgedAs v r) (then-refuses (accepted T) (asked-out q (T .len) 0 out)) e
 
-  pub asked-granted : 1 ≤ q → q ≤ T .len → t ≡ tableIn T → JudgedAs (periodAsked T q 0 then accepted T) (record { verdict = Accepted; table = t })
+  pub asked-granted : {t : code.Table} → 1 ≤ q → q ≤ T .len → t ≡ tableIn T → JudgedAs (periodAsked T q 0 then accepted T) (record { verdict = Accepted; table = t })
   asked-granted l h e = granted T (then-accepts (accepted T) (asked-in q (T .len) 0 l h)) e
 
 -- what is known of a table that may be asked about q

@@ -27,10 +27,7 @@ fn ask_table(t: Table, q: u64) -> Judged
     ensures { λ r. ⌜ JudgedAs (periodAsked (tableOf t) q 0 then accepted (tableOf t)) r ⌝ }
 {
     if !asks::in_range(q, t.len as u64) {
-        return Judged {
-            verdict: Verdict::Refused(Refusal::Ask(0)),
-            table: table::empty(),
-        };
+        return table::deny(Refusal::Ask(0));
     }
     Judged {
         verdict: Verdict::Accepted,

@@ -22,7 +22,7 @@ use Rattle.rules.specs.Verdicts.{Verdict, accepted, refused, Test, _then
 use Rattle.rules.specs.Bytes.{tableBytes, longestTable, joined, replyBytes, startsBytes}
 use Rattle.rules.specs.Judge.{opsFrom, judge, judgeNumbers, judgeReply}
 use Rattle.rules.specs.Text.{replyText, textOf}
-use Rattle.rules.specs.Answers.{put, written, Answers, bytesOf, IsText, IsUnfold, marginTest}
+use Rattle.rules.specs.Answers.{put, written, Answers, bytesOf, IsText, IsUnfold, marginTest, asked, IsRight}
 use Rattle.rules.specs.Bench.{opn, oneMode, k1, k1-bytes, k2, k3, k4, k5, k6, k7, k8, k9, k10, k10-touching, row}
 
 -- ---- members of small sets
@@ -628,3 +628,8 @@ questions-asked : questions
     ∷ []
 unfolding questions
 questions-asked = refl
+
+-- "for "is q right", q is place 0": K1 at 0, and at 6, which is above its length
+right-asked : IsRight k1-bytes 0 (refused 9 0 0) × IsRight k1-bytes 6 (refused 9 0 0)
+unfolding Answers judge k1-bytes asked
+right-asked = (refl, refl)

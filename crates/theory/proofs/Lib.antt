@@ -13,7 +13,7 @@ pub mod Verdicts
 pub mod Carry
 pub mod Judging
 pub mod Lengths
-pub mod Figures
+pub mod Bounded
 pub mod Bytes
 pub mod Numbers
 pub mod Replies

@@ -17,7 +17,7 @@ use Rattle.rules.specs.Answers.{Answers, Planned, ReplyTo}
 use Rattle.rules.specs.Bench.{All, k1-bytes}
 use Rattle.theory.specs.Tests.{planOf}
 use Rattle.theory.proofs.Judging.{judge-accepted}
-use Rattle.theory.proofs.Figures.{Small, figures-small}
+use Rattle.theory.proofs.Bounded.{Small, figures-small}
 use Rattle.theory.proofs.Replies.{folded}
 
 -- ---- the digits, one by one

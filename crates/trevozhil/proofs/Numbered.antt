@@ -12,7 +12,7 @@ use Rattle.rules.specs.Verdicts.{Verdict, accepted, refused, refuseIf, _then_, 
 use Rattle.rules.specs.Judge.{judge, Numbers, judgeNumbers, judgeReply}
 use Rattle.rules.specs.Answers.{Written, put, Answers, asked, marginTest}
 use Rattle.theory.specs.Tests.{askedTable}
-use Rattle.theory.proofs.Figures.{Bounded, judge-bounded, numbers-bounded, reply-bounded}
+use Rattle.theory.proofs.Bounded.{Bounded, judge-bounded, numbers-bounded, reply-bounded}
 use Rattle.theory.proofs.Answering.{put-room, put-short}
 use Rattle.margins.specs.MarginLaws.{margin-row}
 

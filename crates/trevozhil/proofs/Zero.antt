@@ -14,7 +14,7 @@ use Rattle.rules.specs.Rows.{Reply, replyOf, startsOf, margin}
 use Rattle.rules.specs.Verdicts.{Verdict, accepted, refused, _then_, onwards}
 use Rattle.rules.specs.Bytes.{tableBytes, replyBytes, startsBytes}
 use Rattle.rules.specs.Judge.{judge, judgeReply, Numbers, judgeNumbers}
-use Rattle.rules.specs.Answers.{Written, put, written, bytesOf, Answers, Planned, IsText, periodAsked, marginTest, RightSaid}
+use Rattle.rules.specs.Answers.{Written, put, written, bytesOf, Answers, Planned, ReplyTo, IsText, periodAsked, marginTest, RightSaid}
 use Rattle.theory.specs.Tests.{askedTable}
 use Rattle.theory.proofs.Verdicts.{never-refused, then-accepts, then-first, then-rest, onwards-accepts, onwards-first}
 use Rattle.theory.proofs.Answering.{put-room, put-short, question}
@@ -71,58 +71,66 @@ numbers-zero N f e = judged-zero (judgeNumbers N) f (numbers-numbered N) e
 abbrev pub inFront : List ℕ → List ℕ → Ended (List ℕ)
 inFront bytes out = ended (figuresOf 0 (length bytes) 0) (bytes ++ drop (length bytes) out)
 
-put-zero : (bytes out : List ℕ) (l : Ended (List ℕ)) → l ≡ endedOf (put bytes out) → ZeroAlone (l .told) (l ≡ inFront bytes out)
+-- what is accepted, where its bytes have room
+abbrev Fits : {A : Type 0} → (A → List ℕ) → Verdict A → List ℕ → Type 0
+Fits {A} f v out = (x : A) × (v ≡ accepted x) × (length (f x) ≤ length out)
+
+-- 0 is told exactly of what is accepted and has room, and then its bytes are in the buffer
+pub record ZeroWritten {A : Type 0} (f : A → List ℕ) (v : Verdict A) (out : List ℕ) (l : Ended (List ℕ)) : Type 0 where
+  pub told : ZeroAlone (l .told) (Fits f v out)
+  pub front : (x : A) → v ≡ accepted x → length (f x) ≤ length out → l ≡ inFront (f x) out
+
+put-front : (bytes out : List ℕ) (l : Ended (List ℕ)) → l ≡ endedOf (put bytes out) → length bytes ≤ length out → l ≡ inFront bytes out
+put-front bytes out l e room = e ∙ ap endedOf (put-room bytes out room)
+
+put-zero : (bytes out : List ℕ) (l : Ended (List ℕ)) → l ≡ endedOf (put bytes out) → ZeroAlone (l .told) (length bytes ≤ length out)
 put-zero bytes out l e =
-    let told : l .told ≡ toldOf (put bytes out .answer) = ap (λ (m : Ended (List ℕ)). m .told) e in
-    let z = told-zero (put bytes out .answer) (put-numbered bytes out) in
-    record {
-      success = λ n. e ∙ go (decLt (length out) (length bytes)) (z .success (sym (ap (λ (f : Figures). f .number) told) ∙ n) .1);
-      zero = λ x. ap (λ (m : Ended (List ℕ)). m .told .number) x;
-      nine = rw told (z .nine);
-    }
+    zero-as (ap (λ (m : Ended (List ℕ)). m .told) e) (told-zero (put bytes out .answer) (put-numbered bytes out)) (go (decLt (length out) (length bytes)))
+    (λ room. (length bytes, ap (λ (w : Written). w .answer) (put-room bytes out room)))
   where
-    go : Dec (length out < length bytes) → {n : ℕ} → put bytes out .answer ≡ accepted n → endedOf (put bytes out) ≡ inFront bytes out
-    go (yes h) x = never-refused (sym (ap (λ (w : Written). w .answer) (put-short bytes out h)) ∙ x)
-    go (no h) x = ap endedOf (put-room bytes out (omega arith))
+    go : Dec (length out < length bytes) → (n : ℕ) × (put bytes out .answer ≡ accepted n) → length bytes ≤ length out
+    go (yes h) (n, x) = never-refused (sym (ap (λ (w : Written). w .answer) (put-short bytes out h)) ∙ x)
+    go (no h) x = omega arith
 
 written-zero : {A : Type 0} (f : A → List ℕ) (v : Verdict A) (out : List ℕ) (l : Ended (List ℕ)) → Numbered v → l ≡ endedOf (written (bytesOf f v) out)
-    → ZeroAlone (l .told) ((x : A) × (v ≡ accepted x) × (l ≡ inFront (f x) out))
+    → ZeroWritten f v out l
 unfolding written bytesOf onwards
-written-zero f (accepted x) out l good e =
-    let z = put-zero (f x) out l e in
+written-zero {A} f (accepted x) out l good e =
     record {
-      success = λ n. (x, refl, z .success n);
-      zero = λ (y, same, front). ap (λ (m : Ended (List ℕ)). m .told .number) front;
-      nine = z .nine;
+      told = zero-as refl (put-zero (f x) out l e) (λ room. (x, refl, room)) (λ (y, same, room). subst⁻¹ (λ (u : A). length (f u) ≤ length out) (here y same) room);
+      front = λ y same room. put-front (f y) out l (e ∙ ap (λ (u : A). endedOf (put (f u) out)) (here y same)) room;
     }
+  where
+    here : (y : A) → accepted x ≡ accepted y → x ≡ y
+    here y same = cc
 written-zero f (refused number a b) out l (bad h) e =
-    let told : l .told .number ≡ number = ap (λ (m : Ended (List ℕ)). m .told .number) e in
+    let number-is : l .told .number ≡ number = ap (λ (m : Ended (List ℕ)). m .told .number) e in
     record {
-      success = λ n. absurd (omega (arith, n, told, h .0));
-      zero = λ (y, same, front). never-refused same;
-      nine = omega (arith, told, h .1);
+      told =
+          record {
+            success = λ n. absurd (omega (arith, n, number-is, h .0));
+            zero = λ (y, same, room). never-refused same;
+            nine = omega (arith, number-is, h .1);
+          };
+      front = λ y same room. never-refused same;
     }
 
--- trevozhil_write returns 0 exactly where the table is accepted and its bytes are in the buffer
-pub write-zero : (N : Numbers) (out : List ℕ) (l : Ended (List ℕ)) → WriteEnds N out l
-    → ZeroAlone (l .told) ((T : Table) × (judgeNumbers N ≡ accepted T) × (l ≡ inFront (tableBytes T) out))
+-- trevozhil_write returns 0 exactly where the table is accepted and its bytes have room, and then they are in the buffer
+pub write-zero : (N : Numbers) (out : List ℕ) (l : Ended (List ℕ)) → WriteEnds N out l → ZeroWritten tableBytes (judgeNumbers N) out l
 write-zero N out l (w, p, e) = written-zero tableBytes (judgeNumbers N) out l (numbers-numbered N) (e ∙ ap endedOf p)
 
--- trevozhil_unfold: where the reply is accepted and the starts are in the buffer
-pub unfold-zero : (s out : List ℕ) (l : Ended (List ℕ)) → UnfoldEnds s out l
-    → ZeroAlone (l .told) ((R : Reply) × (judgeReply s ≡ accepted R) × (l ≡ inFront (startsBytes (startsOf R)) out))
+-- trevozhil_unfold: where the reply is accepted and its starts have room
+pub unfold-zero : (s out : List ℕ) (l : Ended (List ℕ)) → UnfoldEnds s out l → ZeroWritten (λ R. startsBytes (startsOf R)) (judgeReply s) out l
 unfold-zero s out l (w, p, e) = written-zero (λ R. startsBytes (startsOf R)) (judgeReply s) out l (reply-numbered s) (e ∙ ap endedOf p)
 
--- trevozhil_fold: where the text, that of a refused table too, is in the buffer
+-- trevozhil_plan: where the table is accepted and its reply, at its period, has room
+pub plan-zero : (s out : List ℕ) (l : Ended (List ℕ)) → PlanEnds s out l → (v : Verdict Reply) × ReplyTo s v × ZeroWritten replyBytes v out l
+plan-zero s out l (w, (v, r, p), e) = (v, r, written-zero replyBytes v out l (answers-numbered Planned (judge-numbered s) r) (e ∙ ap endedOf p))
+
+-- trevozhil_fold: where the text, that of a refused table too, has room
 pub fold-zero : (s out : List ℕ) (l : Ended (List ℕ)) → FoldEnds s out l
-    → ZeroAlone (l .told) ((text : List ℕ) × IsText s text × (l ≡ inFront text out))
-fold-zero s out l (w, (text, is, p), e) =
-    let z = put-zero text out l (e ∙ ap endedOf p) in
-    record {
-      success = λ n. (text, is, z .success n);
-      zero = λ (t, x, front). ap (λ (m : Ended (List ℕ)). m .told .number) front;
-      nine = z .nine;
-    }
+    → (text : List ℕ) × IsText s text × ZeroAlone (l .told) (length text ≤ length out) × (length text ≤ length out → l ≡ inFront text out)
+fold-zero s out l (w, (text, is, p), e) = (text, is, put-zero text out l (e ∙ ap endedOf p), put-front text out l (e ∙ ap endedOf p))
 
 -- ---- answers that are facts about what was accepted
 
@@ -135,20 +143,6 @@ answered-back : {A B : Type 0} (P : A → B → Type 0) (u : Verdict A) (v : Ver
 unfolding Answers
 answered-back P (accepted x) v a e = (a .0, a .2)
 answered-back P (refused n b c) v a e = never-refused e
-
--- trevozhil_plan: where the table is accepted and its reply, at its period, is in the buffer
-pub plan-zero : (s out : List ℕ) (l : Ended (List ℕ)) → PlanEnds s out l
-    → ZeroAlone (l .told) ((T : Table) × (judge s ≡ accepted T) × (q : ℕ) × IsPeriod T q × (l ≡ inFront (replyBytes (replyOf T q)) out))
-plan-zero s out l (w, (v, r, p), e) =
-    let z = written-zero replyBytes v out l (answers-numbered Planned (judge-numbered s) r) (e ∙ ap endedOf p) in
-    record {
-      success = λ n.
-          let (R, x, front) = z .success n in
-          let (T, y, (q, period, same)) = answered-first Planned (judge s) v r x in
-          (T, y, q, period, front ∙ ap (λ (S : Reply). inFront (replyBytes S) out) same);
-      zero = λ (T, y, q, period, front). ap (λ (m : Ended (List ℕ)). m .told .number) front;
-      nine = z .nine;
-    }
 
 -- ---- questions
 
@@ -190,20 +184,21 @@ unfolding endedWith unwritten onwards
 margin-figures (accepted z) before = refl
 margin-figures (refused number a b) before = refl
 
--- trevozhil_margin: where the table is accepted and each number asked for is in its range; the place for the margin holds it
+-- trevozhil_margin: where the table is accepted and each number asked for is in its range; then the place for the margin holds it
 pub margin-zero : (s : List ℕ) (i j n q : ℕ) (before : ℤ) (l : Ended ℤ) → MarginEnds s i j n q before l
-    → ZeroAlone (l .told) ((T : Table) × (judge s ≡ accepted T) × (marginTest T i j n q ≡ accepted tt) × (l ≡ ended (figuresOf 0 0 0) (margin T i j n q)))
+    → ZeroAlone (l .told) ((T : Table) × (judge s ≡ accepted T) × (marginTest T i j n q ≡ accepted tt))
+    × ((T : Table) → judge s ≡ accepted T → marginTest T i j n q ≡ accepted tt → l ≡ ended (figuresOf 0 0 0) (margin T i j n q))
 unfolding endedWith
 margin-zero s i j n q before l (v, p, e) =
     let asked : Table → Verdict ℤ = λ T. marginTest T i j n q then accepted (margin T i j n q) in
     let numbered = subst⁻¹ Numbered p (onwards-numbered {f = asked} (judge-numbered s) (λ T. then-numbered (margin-numbered T i j n q) good)) in
     let z = judged-zero v (l .told) numbered (ap (λ (m : Ended ℤ). m .told) e ∙ margin-figures v before) in
-    record {
-      success = λ h.
-          let (found, x) = z .success h in
+    let found : (T : Table) → judge s ≡ accepted T → marginTest T i j n q ≡ accepted tt → v ≡ accepted (margin T i j n q) =
+    λ T read test. p ∙ onwards-accepts asked read ∙ then-accepts (accepted (margin T i j n q)) test in (
+      zero-as refl z
+          (λ (m, x).
           let (T, read, row) = onwards-first (judge s) asked (sym p ∙ x) in
-          let same : margin T i j n q ≡ found = cc (then-rest (marginTest T i j n q) (accepted (margin T i j n q)) row) in
-          (T, read, then-first (marginTest T i j n q) (accepted (margin T i j n q)) row .1, e ∙ ap (λ (u : Verdict ℤ). endedWith u before) (x ∙ ap accepted (sym same)));
-      zero = λ (T, read, test, same). ap (λ (m : Ended ℤ). m .told .number) same;
-      nine = z .nine;
-    }
+          (T, read, then-first (marginTest T i j n q) (accepted (margin T i j n q)) row .1))
+          (λ (T, read, test). (margin T i j n q, found T read test)),
+      λ T read test. e ∙ ap (λ (u : Verdict ℤ). endedWith u before) (found T read test),
+    )

@@ -14,15 +14,15 @@ cast-in-range c = search needs
 in-range-requires : tie.Need-in-range-requires
 in-range-requires c κs = search needs
 
-empty-requires : tie.Need-empty-requires
-empty-requires c κs = search needs
+deny-requires : tie.Need-deny-requires
+deny-requires c κs = search needs
 
 returns : tie.Need-returns
 returns c =
     let asked = c .before .before in
     let s = asked .before .before in
     asked-denied (tableOf (s .args .t)) (s .args .q)
-    (λ l h. range-out (asked .in-range .ensures) (c .before .if1 .taken) (omega (arith, l), omega (arith, h))) (c .empty .ensures)
+    (λ l h. range-out (asked .in-range .ensures) (c .before .if1 .taken) (omega (arith, l), omega (arith, h))) (c .deny .ensures)
 
 returns-2 : tie.Need-returns-2
 returns-2 c =
@@ -33,4 +33,4 @@ returns-2 c =
 
 pub ask-table-spec : {M : Type 1} → statement M
 ask-table-spec =
-    tie.close (tie.spec cast-in-range in-range-requires empty-requires returns returns-2)
+    tie.close (tie.spec cast-in-range in-range-requires deny-requires returns returns-2)
