@@ -10,7 +10,7 @@ use lib.IntN.{ℤ}
 use lib.ListN.{length, drop}
 use Rattle.rules.specs.Table.{Table}
 use Rattle.rules.specs.Runs.{IsPeriod}
-use Rattle.rules.specs.Rows.{Reply, replyOf, startsOf, margin}
+use Rattle.rules.specs.Rows.{Reply, startsOf, margin}
 use Rattle.rules.specs.Verdicts.{Verdict, accepted, refused, _then_, onwards}
 use Rattle.rules.specs.Bytes.{tableBytes, replyBytes, startsBytes}
 use Rattle.rules.specs.Judge.{judge, judgeReply, Numbers, judgeNumbers}
