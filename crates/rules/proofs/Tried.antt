@@ -3,7 +3,7 @@
 -- Assumes nothing.
 use Prim.Native.Nat.{ℕ, zero, suc, _/_, _%_, _^_, _<_, _≤_}
 use mathlib.Core.Path.{_≡_, refl, subst}
-use mathlib.Core.Bool.{false≢true}
+use mathlib.Core.Bool.{true, false, false≢true}
 use mathlib.Core.List.{List, [], _∷_, _++_, map}
 use mathlib.Core.Logic.{inl, inr}
 use native.Mathlib.Decide.{decLt}
@@ -21,8 +21,9 @@ use Rattle.rules.specs.Rows.{ticks, replyOf, startsOf, margin}
 use Rattle.rules.specs.Verdicts.{Verdict, accepted, refused, Test, _then_}
 use Rattle.rules.specs.Bytes.{tableBytes, longestTable, joined, replyBytes, startsBytes}
 use Rattle.rules.specs.Judge.{opsFrom, judge, judgeNumbers, judgeReply}
-use Rattle.rules.specs.Text.{replyText, textOf}
-use Rattle.rules.specs.Answers.{put, written, Answers, bytesOf, IsText, IsUnfold, marginTest, asked, IsRight}
+use Rattle.rules.specs.Text.{replyText, textOf, yesNoLine, marginLine, startsText}
+use Rattle.rules.specs.Words.{Question, foldAsked, boardsAsked, valuesAsked, marginAsked, unfoldAsked, nothingAsked, questionOf, askable}
+use Rattle.rules.specs.Answers.{put, written, Answers, bytesOf, IsText, IsUnfold, marginTest, asked, Fit, Arrive, BoardsFit, ValuesArrive, Printed, printed, IsPrinted, IsSaid}
 use Rattle.rules.specs.Bench.{opn, oneMode, k1, k1-bytes, k2, k3, k4, k5, k6, k7, k8, k9, k10, k10-touching, row}
 
 -- ---- members of small sets
@@ -136,14 +137,14 @@ k4-boards r run zero k (suc (suc j)) l x y apart share lap = omega (arith, y .is
 k4-boards r run (suc zero) k (suc (suc j)) l x y apart share lap = omega (arith, y .isOp)
 k4-boards r run (suc (suc i)) k j l x y apart share lap = omega (arith, x .isOp)
 
-k4-values : ValuesRightAt k4 (spaced 2)
+k4-values : (q : ℕ) → ValuesRightAt k4 (spaced q)
 unfolding ValuesRightAt
-k4-values r run c i k zero l y reads source = absurd (in-zero c reads)
-k4-values r run c i k (suc zero) l y reads source = absurd (in-zero c reads)
-k4-values r run c i k (suc (suc j)) l y reads source = absurd (in-zero c reads)
+k4-values q r run c i k zero l y reads source = absurd (in-zero c reads)
+k4-values q r run c i k (suc zero) l y reads source = absurd (in-zero c reads)
+k4-values q r run c i k (suc (suc j)) l y reads source = absurd (in-zero c reads)
 
 k4-right : Right k4 2
-k4-right = record { boards = k4-boards; values = k4-values }
+k4-right = record { boards = k4-boards; values = k4-values 2 }
 
 k4-wrong : BoardsRightAt k4 (spaced 3) → ⊥
 unfolding BoardsRightAt has
@@ -195,6 +196,17 @@ k7-wrong : ValuesRightAt k7 (spaced 2) → ⊥
 unfolding ValuesRightAt has
 k7-wrong right =
     let h = right (0 ∷ 1 ∷ 2 ∷ []) run7 0 0 0 1 2 (record { cycle = omega arith; isOp = omega arith; inMode = refl }) refl k7-source in omega arith
+
+-- its boards fit there: each operation is its board's only one, and as long as the period at most
+k7-boards : BoardsRightAt k7 (spaced 2)
+unfolding BoardsRightAt has
+k7-boards r run zero k zero l x y apart share lap = apart (refl, omega arith)
+k7-boards r run zero k (suc zero) l x y apart (b, u, v) lap = omega (arith, only-one b u, only-zero b v)
+k7-boards r run (suc zero) k zero l x y apart (b, u, v) lap = omega (arith, only-zero b u, only-one b v)
+k7-boards r run (suc zero) k (suc zero) l x y apart share lap = apart (refl, omega arith)
+k7-boards r run zero k (suc (suc j)) l x y apart share lap = omega (arith, y .isOp)
+k7-boards r run (suc zero) k (suc (suc j)) l x y apart share lap = omega (arith, y .isOp)
+k7-boards r run (suc (suc i)) k j l x y apart share lap = omega (arith, x .isOp)
 
 -- ---- modes that no run reaches: K9 is right at 1
 k9-mode : (r : List ℕ) → IsRun k9 r → (k : ℕ) → k < length r → mode r k ≡ 1
@@ -629,7 +641,125 @@ questions-asked : questions
 unfolding questions
 questions-asked = refl
 
--- "for "is q right", q is place 0": K1 at 0, and at 6, which is above its length
-right-asked : IsRight k1-bytes 0 (refused 9 0 0) × IsRight k1-bytes 6 (refused 9 0 0)
+-- "q is place 0": K1 at 0, and at 6, which is above its length
+boards-asked : BoardsFit k1-bytes 0 (refused 9 0 0) × BoardsFit k1-bytes 6 (refused 9 0 0)
 unfolding Answers judge k1-bytes asked
-right-asked = (refl, refl)
+boards-asked = (refl, refl)
+
+values-asked : ValuesArrive k1-bytes 0 (refused 9 0 0) × ValuesArrive k1-bytes 6 (refused 9 0 0)
+unfolding Answers judge k1-bytes asked
+values-asked = (refl, refl)
+
+-- K4 at 3: boards no, values yes
+k4-answers : BoardsFit (tableBytes k4) 3 (accepted false) × ValuesArrive (tableBytes k4) 3 (accepted true)
+unfolding Answers judge tableBytes asked
+k4-answers =
+    ((false, (λ e. absurd (false≢true e), λ x. absurd (k4-wrong x)), refl), (true, (λ e. k4-values 3, λ x. refl), refl))
+
+-- K7 at 2: boards yes, values no
+k7-answers : BoardsFit (tableBytes k7) 2 (accepted true) × ValuesArrive (tableBytes k7) 2 (accepted false)
+unfolding Answers judge tableBytes asked
+k7-answers =
+    ((true, (λ e. k7-boards, λ x. refl), refl), (false, (λ e. absurd (false≢true e), λ x. absurd (k7-wrong x)), refl))
+
+-- ---- the words of the program
+
+abbrev boards-word : List ℕ
+boards-word = 98 ∷ 111 ∷ 97 ∷ 114 ∷ 100 ∷ 115 ∷ []
+
+abbrev values-word : List ℕ
+values-word = 118 ∷ 97 ∷ 108 ∷ 117 ∷ 101 ∷ 115 ∷ []
+
+abbrev margin-word : List ℕ
+margin-word = 109 ∷ 97 ∷ 114 ∷ 103 ∷ 105 ∷ 110 ∷ []
+
+abbrev unfold-word : List ℕ
+unfold-word = 117 ∷ 110 ∷ 102 ∷ 111 ∷ 108 ∷ 100 ∷ []
+
+-- "Boards", "board", "boardss", "-5", "0x10", "", "1 ", "5:", "/5"
+abbrev others : List (List ℕ)
+others = (66 ∷ 111 ∷ 97 ∷ 114 ∷ 100 ∷ 115 ∷ []) ∷ (98 ∷ 111 ∷ 97 ∷ 114 ∷ 100 ∷ []) ∷ (98 ∷ 111 ∷ 97 ∷ 114 ∷ 100 ∷ 115 ∷ 115 ∷ []) ∷ (45 ∷ 53 ∷ []) ∷ (48 ∷ 120 ∷ 49 ∷ 48 ∷ []) ∷ [] ∷ (49 ∷ 32 ∷ []) ∷ (53 ∷ 58 ∷ []) ∷ (47 ∷ 53 ∷ []) ∷ []
+
+-- "0", "5", "007", "18446744073709551617"
+abbrev zero-word : List ℕ
+zero-word = 48 ∷ []
+
+abbrev five : List ℕ
+five = 53 ∷ []
+
+abbrev seven : List ℕ
+seven = 48 ∷ 48 ∷ 55 ∷ []
+
+abbrev beyond : List ℕ
+beyond = 49 ∷ 56 ∷ 52 ∷ 52 ∷ 54 ∷ 55 ∷ 52 ∷ 52 ∷ 48 ∷ 55 ∷ 51 ∷ 55 ∷ 48 ∷ 57 ∷ 53 ∷ 53 ∷ 49 ∷ 54 ∷ 49 ∷ 55 ∷ []
+
+asked-words : map questionOf
+    ([]
+    ∷ (boards-word ∷ five ∷ [])
+    ∷ (values-word ∷ seven ∷ [])
+    ∷ (margin-word ∷ zero-word ∷ five ∷ seven ∷ beyond ∷ [])
+    ∷ (unfold-word ∷ [])
+    ∷ [])
+    ≡ foldAsked ∷ boardsAsked 5 ∷ valuesAsked 7 ∷ marginAsked 0 5 7 18446744073709551617 ∷ unfoldAsked ∷ []
+unfolding questionOf
+asked-words = refl
+
+-- too few, too many, no question, no decimal number
+unasked-words : map questionOf
+    ((boards-word ∷ [])
+    ∷ (boards-word ∷ five ∷ five ∷ [])
+    ∷ (values-word ∷ [])
+    ∷ (values-word ∷ five ∷ five ∷ [])
+    ∷ (margin-word ∷ five ∷ five ∷ five ∷ [])
+    ∷ (margin-word ∷ five ∷ five ∷ five ∷ five ∷ five ∷ [])
+    ∷ (unfold-word ∷ five ∷ [])
+    ∷ (five ∷ [])
+    ∷ (five ∷ boards-word ∷ [])
+    ∷ (boards-word ∷ values-word ∷ [])
+    ∷ [])
+    ≡ replicate 10 nothingAsked
+unfolding questionOf
+unasked-words = refl
+
+other-words : map (λ (w : List ℕ). questionOf (w ∷ five ∷ [])) others ++ map (λ (w : List ℕ). questionOf (boards-word ∷ w ∷ [])) others
+    ≡ replicate 18 nothingAsked
+unfolding questionOf
+other-words = refl
+
+-- ---- the lines that are printed
+
+-- "yes" and "no", with the end of the line
+yes-no : yesNoLine true ∷ yesNoLine false ∷ [] ≡ (121 ∷ 101 ∷ 115 ∷ 10 ∷ []) ∷ (110 ∷ 111 ∷ 10 ∷ []) ∷ []
+unfolding yesNoLine
+yes-no = refl
+
+-- "margin 0", "margin 12", "margin -1", "margin -12"
+margin-lines : map marginLine (pos 0 ∷ pos 12 ∷ negsuc 0 ∷ negsuc 11 ∷ [])
+    ≡ (109 ∷ 97 ∷ 114 ∷ 103 ∷ 105 ∷ 110 ∷ 32 ∷ 48 ∷ 10 ∷ [])
+    ∷ (109 ∷ 97 ∷ 114 ∷ 103 ∷ 105 ∷ 110 ∷ 32 ∷ 49 ∷ 50 ∷ 10 ∷ [])
+    ∷ (109 ∷ 97 ∷ 114 ∷ 103 ∷ 105 ∷ 110 ∷ 32 ∷ 45 ∷ 49 ∷ 10 ∷ [])
+    ∷ (109 ∷ 97 ∷ 114 ∷ 103 ∷ 105 ∷ 110 ∷ 32 ∷ 45 ∷ 49 ∷ 50 ∷ 10 ∷ [])
+    ∷ []
+unfolding marginLine
+margin-lines = refl
+
+-- K3's reply: "op 0 start 0", "op 1 start 2", "op 2 start 4"
+start-lines : startsText (replyOf k3 4)
+    ≡ (111 ∷ 112 ∷ 32 ∷ 48 ∷ 32 ∷ 115 ∷ 116 ∷ 97 ∷ 114 ∷ 116 ∷ 32 ∷ 48 ∷ 10 ∷ [])
+    ++ (111 ∷ 112 ∷ 32 ∷ 49 ∷ 32 ∷ 115 ∷ 116 ∷ 97 ∷ 114 ∷ 116 ∷ 32 ∷ 50 ∷ 10 ∷ [])
+    ++ (111 ∷ 112 ∷ 32 ∷ 50 ∷ 32 ∷ 115 ∷ 116 ∷ 97 ∷ 114 ∷ 116 ∷ 32 ∷ 52 ∷ 10 ∷ [])
+unfolding startsText replyOf
+start-lines = refl
+
+-- K4 at 3 and K7 at 2, asked in words; and words that ask nothing, whatever is on standard input
+k4-printed : IsPrinted (boards-word ∷ (51 ∷ []) ∷ []) (tableBytes k4) (record { out = yesNoLine false; err = [] })
+unfolding questionOf IsSaid printed
+k4-printed = (yesNoLine false, (accepted false, k4-answers .0, refl), refl)
+
+k7-printed : IsPrinted (values-word ∷ (50 ∷ []) ∷ []) (tableBytes k7) (record { out = yesNoLine false; err = [] })
+unfolding questionOf IsSaid printed
+k7-printed = (yesNoLine false, (accepted false, k7-answers .1, refl), refl)
+
+nothing-printed : IsPrinted (boards-word ∷ []) (tableBytes k4) (record { out = []; err = askable })
+unfolding questionOf IsSaid printed
+nothing-printed = (askable, refl, refl)

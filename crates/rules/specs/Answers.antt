@@ -3,18 +3,19 @@
 use Prim.Native.Nat.{ℕ}
 use mathlib.Core.Path.{_≡_}
 use mathlib.Core.Bool.{Bool, true, cond, not, _&&_}
-use mathlib.Core.List.{List, _++_}
+use mathlib.Core.List.{List, [], _++_}
 use mathlib.Core.Logic.{_↔_}
 use lib.Dec.{leb, ltb}
 use lib.IntN.{ℤ}
 use lib.ListN.{length, drop}
 use Rattle.rules.specs.Table.{Table, nops}
-use Rattle.rules.specs.Runs.{Right, IsPeriod}
+use Rattle.rules.specs.Runs.{BoardsRightAt, ValuesRightAt, spaced, IsPeriod}
 use Rattle.rules.specs.Rows.{Reply, replyOf, startsOf, margin}
 use Rattle.rules.specs.Verdicts.{Verdict, accepted, refused, ROOM, ASK, Test, refuseIf, _then_, onwards}
 use Rattle.rules.specs.Bytes.{tableBytes, replyBytes, startsBytes}
 use Rattle.rules.specs.Judge.{judge, Numbers, judgeNumbers, judgeReply}
-use Rattle.rules.specs.Text.{textOf}
+use Rattle.rules.specs.Text.{textOf, told, yesNoLine, marginLine, startsText}
+use Rattle.rules.specs.Words.{Question, foldAsked, boardsAsked, valuesAsked, marginAsked, unfoldAsked, nothingAsked, questionOf, askable}
 
 -- ---- a lent buffer
 
@@ -100,9 +101,59 @@ IsMargin s i j n q v = v ≡ onwards (judge s) (λ T. marginTest T i j n q then 
 abbrev pub IsPeriodOf : List ℕ → Verdict ℕ → Type 0
 IsPeriodOf s v = Answers IsPeriod (judge s) v
 
--- is q right: "q is place 0"
-abbrev pub RightSaid : ℕ → Table → Bool → Type 0
-RightSaid q T said = (said ≡ true) ↔ Right T q
+-- ---- document 02, No. 10, "Ask about boards or about values": two questions, "each with its own answer for every table and period"
 
-abbrev pub IsRight : List ℕ → ℕ → Verdict Bool → Type 0
-IsRight s q v = Answers (RightSaid q) (onwards (judge s) (λ T. periodAsked T q 0 then accepted T)) v
+-- the table of a question about q; "q is place 0"
+abbrev pub askedTable : List ℕ → ℕ → Verdict Table
+askedTable s q = onwards (judge s) (λ T. periodAsked T q 0 then accepted T)
+
+-- a yes says that P holds of q
+abbrev pub YesFor : (Table → ℕ → Type 0) → ℕ → Table → Bool → Type 0
+YesFor P q T said = (said ≡ true) ↔ P T q
+
+-- the answer whether P holds of q. "Refusals: each has the old question's, in the same order": the table's, then ASK.
+abbrev pub YesNo : (Table → ℕ → Type 0) → List ℕ → ℕ → Verdict Bool → Type 0
+YesNo P s q v = Answers (YesFor P q) (askedTable s q) v
+
+-- "whether a period fits the boards"
+abbrev pub Fit : Table → ℕ → Type 0
+Fit T q = BoardsRightAt T (spaced q)
+
+abbrev pub BoardsFit : List ℕ → ℕ → Verdict Bool → Type 0
+BoardsFit s q v = YesNo Fit s q v
+
+-- "whether values arrive"
+abbrev pub Arrive : Table → ℕ → Type 0
+Arrive T q = ValuesRightAt T (spaced q)
+
+abbrev pub ValuesArrive : List ℕ → ℕ → Verdict Bool → Type 0
+ValuesArrive s q v = YesNo Arrive s q v
+
+-- ---- the program: what it prints for the words behind its name and the bytes on its standard input
+
+-- the text for a question: an answer, or the line of its refusal
+unfoldable pub IsSaid : Question → List ℕ → List ℕ → Type 0
+unfolding told yesNoLine marginLine startsText askable
+IsSaid foldAsked s text = IsText s text
+IsSaid (boardsAsked q) s text = (v : Verdict Bool) × BoardsFit s q v × (text ≡ told yesNoLine v)
+IsSaid (valuesAsked q) s text = (v : Verdict Bool) × ValuesArrive s q v × (text ≡ told yesNoLine v)
+IsSaid (marginAsked i j n q) s text = (v : Verdict ℤ) × IsMargin s i j n q v × (text ≡ told marginLine v)
+IsSaid unfoldAsked s text = text ≡ told startsText (judgeReply s)
+IsSaid nothingAsked s text = text ≡ askable
+
+-- what stands on standard output and on standard error
+pub record Printed : Type 0 where
+  pub out : List ℕ
+  pub err : List ℕ
+
+-- words that ask nothing "get a short list of what can be asked on standard error and nothing on standard output"
+unfoldable pub printed : Question → List ℕ → Printed
+printed foldAsked text = record { out = text; err = [] }
+printed (boardsAsked q) text = record { out = text; err = [] }
+printed (valuesAsked q) text = record { out = text; err = [] }
+printed (marginAsked i j n q) text = record { out = text; err = [] }
+printed unfoldAsked text = record { out = text; err = [] }
+printed nothingAsked text = record { out = []; err = text }
+
+abbrev pub IsPrinted : List (List ℕ) → List ℕ → Printed → Type 0
+IsPrinted ws s p = (text : List ℕ) × IsSaid (questionOf ws) s text × (p ≡ printed (questionOf ws) text)

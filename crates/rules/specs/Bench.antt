@@ -1,14 +1,14 @@
 -- Document 01, "Bench tables": K1 to K10, those marked to be proved, each with its whole answer, as one list.
 -- Assumes nothing.
 use Prim.Native.Nat.{ℕ}
-use mathlib.Core.Bool.{Bool, false}
+use mathlib.Core.Bool.{Bool, true, false}
 use mathlib.Core.List.{List, [], _∷_}
 use lib.IntN.{ℤ, pos, negsuc}
 use Rattle.rules.specs.Table.{Op, Table}
 use Rattle.rules.specs.Rows.{Row, Reply, ticks, cycles}
 use Rattle.rules.specs.Verdicts.{Verdict, accepted, refused}
 use Rattle.rules.specs.Bytes.{tableBytes}
-use Rattle.rules.specs.Answers.{ReplyTo, IsMargin, IsRight}
+use Rattle.rules.specs.Answers.{ReplyTo, IsMargin, BoardsFit, ValuesArrive}
 
 -- ---- how they are written down: start, duration, boards, reads, writes, modes
 abbrev pub opn : ℕ → ℕ → ℕ → ℕ → ℕ → ℕ → Op
@@ -105,18 +105,21 @@ row s f = record { start = ticks s; fst = cycles f }
 abbrev pub reply : ℕ → List Row → Verdict Reply
 reply q rs = accepted (record { period = ticks q; rows = rs })
 
--- a case: a table's bytes, what is asked of them (the reply, a margin, whether q is right), and the whole answer or refusal
+-- a case: a table's bytes, what is asked of them (the reply, a margin, whether the boards fit at q, whether the values arrive), and the whole
+-- answer or refusal
 pub data Case : Type 0 where
   replies : List ℕ → Verdict Reply → Case
   margins : List ℕ → (i j n q : ℕ) → Verdict ℤ → Case
-  rights : List ℕ → ℕ → Verdict Bool → Case
+  fits : List ℕ → ℕ → Verdict Bool → Case
+  arrives : List ℕ → ℕ → Verdict Bool → Case
 
 -- what a case claims: that the answer beside the bytes is the answer by the rules. A reply is that of the smallest period that is right in
--- every run, folded; "right" is right in every run; a refusal is the first that is due.
+-- every run, folded; boards fit and values arrive in every run; a refusal is the first that is due.
 unfoldable pub Holds : Case → Type 0
 Holds (replies s v) = ReplyTo s v
 Holds (margins s i j n q v) = IsMargin s i j n q v
-Holds (rights s q v) = IsRight s q v
+Holds (fits s q v) = BoardsFit s q v
+Holds (arrives s q v) = ValuesArrive s q v
 
 -- each case of a list
 unfoldable pub All : {A : Type 0} → (A → Type 0) → List A → Type 0
@@ -135,10 +138,13 @@ bench =
     ∷ table k2 (reply 2 (row 0 0 ∷ row 0 1 ∷ row 0 2 ∷ []))
     ∷ table k3 (reply 4 (row 0 0 ∷ row 2 0 ∷ row 0 1 ∷ []))
     ∷ table k4 (reply 2 (row 0 0 ∷ row 1 1 ∷ []))
-    ∷ rights (tableBytes k4) 3 (accepted false)
+    ∷ fits (tableBytes k4) 3 (accepted false)
+    ∷ arrives (tableBytes k4) 3 (accepted true)
     ∷ table k5 (reply 2 (row 0 0 ∷ row 0 0 ∷ []))
     ∷ table k6 (reply 4 (row 0 0 ∷ row 0 0 ∷ []))
     ∷ table k7 (reply 3 (row 1 1 ∷ row 0 0 ∷ []))
+    ∷ fits (tableBytes k7) 2 (accepted true)
+    ∷ arrives (tableBytes k7) 2 (accepted false)
     ∷ table k8 (reply 3 (row 0 0 ∷ row 2 0 ∷ row 0 1 ∷ []))
     ∷ table k9 (reply 1 (row 0 0 ∷ []))
     ∷ table k10 (refused 6 0 1)

@@ -7,5 +7,6 @@ pub mod Verdicts
 pub mod Bytes
 pub mod Judge
 pub mod Text
+pub mod Words
 pub mod Answers
 pub mod Bench

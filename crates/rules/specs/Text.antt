@@ -1,10 +1,11 @@
 -- Document 01, "The program": the text that `fold` prints, as bytes of ASCII.
 -- Assumes nothing.
 use Prim.Native.Nat.{ℕ, zero, suc, _+_, _/_, _%_}
-use mathlib.Core.Bool.{cond}
+use mathlib.Core.Bool.{Bool, cond}
 use mathlib.Core.List.{List, [], _∷_, _++_}
 use lib.Dec.{ltb}
-use Rattle.rules.specs.Rows.{Row, Reply}
+use lib.IntN.{ℤ, pos, negsuc}
+use Rattle.rules.specs.Rows.{Ticks, Row, Reply, startsOf}
 use Rattle.rules.specs.Verdicts.{Verdict, accepted, refused}
 
 -- ---- "all numbers are decimal"
@@ -71,11 +72,52 @@ unfoldable pub replyText : Reply → List ℕ
 unfolding periodLine rowLines
 replyText R = periodLine (R .period .number) ++ rowLines 0 (R .rows)
 
+-- the text of what is accepted, or the refusal's line
+unfoldable pub told : {A : Type 0} → (A → List ℕ) → Verdict A → List ℕ
+unfolding refusedLine
+told f (accepted x) = f x
+told f (refused number a b) = refusedLine number a b
+
 unfoldable pub textOf : Verdict Reply → List ℕ
-unfolding replyText refusedLine
-textOf (accepted R) = replyText R
-textOf (refused number a b) = refusedLine number a b
+unfolding told replyText
+textOf v = told replyText v
 
 -- no text for a table's bytes is longer: 12 bytes for the period's line, and 24 for each of 32 rows
 abbrev pub longestText : ℕ
 longestText = 780
+
+-- ---- the answers to the other questions, each a text of its own
+
+-- `yes` or `no`
+unfoldable pub yesNoLine : Bool → List ℕ
+yesNoLine said = cond said (121 ∷ 101 ∷ 115 ∷ newline) (110 ∷ 111 ∷ newline)
+
+-- "margin "
+abbrev pub marginWord : List ℕ
+marginWord = 109 ∷ 97 ∷ 114 ∷ 103 ∷ 105 ∷ 110 ∷ 32 ∷ []
+
+-- `margin m`, with "a minus sign where it is negative"
+unfoldable pub signed : ℤ → List ℕ
+unfolding decimal
+signed (pos n) = decimal n
+signed (negsuc n) = 45 ∷ decimal (suc n)
+
+unfoldable pub marginLine : ℤ → List ℕ
+unfolding signed
+marginLine m = marginWord ++ signed m ++ newline
+
+-- `op i start t`
+unfoldable pub startLine : ℕ → Ticks → List ℕ
+unfolding decimal
+startLine i t = opWord ++ decimal i ++ startWord ++ decimal (t .number) ++ newline
+
+-- the lines of starts, the first of which is that of operation i
+unfoldable pub startLines : ℕ → List Ticks → List ℕ
+unfolding startLine
+startLines i [] = []
+startLines i (t ∷ ts) = startLine i t ++ startLines (suc i) ts
+
+-- a reply's starts
+unfoldable pub startsText : Reply → List ℕ
+unfolding startLines startsOf
+startsText R = startLines 0 (startsOf R)

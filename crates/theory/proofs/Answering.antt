@@ -2,30 +2,30 @@
 -- Assumes nothing.
 use Prim.Native.Nat.{ℕ, _+_, _*_, _<_, _≤_}
 use mathlib.Core.Path.{_≡_, refl, sym, ap, subst⁻¹, _∙_}
-use mathlib.Core.Bool.{Bool, true, false, not, _&&_}
+use mathlib.Core.Bool.{Bool, true, false}
 use mathlib.Core.List.{List, _++_}
 use native.Mathlib.Omega.{arith}
 use native.Mathlib.Decide.{decLt}
-use lib.Dec.{leb}
 use lib.IntN.{ℤ}
 use lib.ListN.{length, take, drop, length-append, length-drop}
-use borrow.Author.Tests.{lt-ltb, le-ltb, not-false}
+use borrow.Author.Tests.{lt-ltb, le-ltb}
 use Rattle.rules.specs.Table.{Table, nops, Accepted}
 use Rattle.rules.specs.Runs.{IsPeriod}
 use Rattle.rules.specs.Rows.{Reply, replyOf}
-use Rattle.rules.specs.Verdicts.{Verdict, accepted, refused, ASK, ROOM, _then_, onwards}
+use Rattle.rules.specs.Verdicts.{Verdict, accepted, refused, ROOM, onwards}
 use Rattle.rules.specs.Bytes.{replyBytes, farthest}
 use Rattle.rules.specs.Judge.{judge, Numbers}
 use Rattle.rules.specs.Text.{replyText, textOf}
-use Rattle.rules.specs.Answers.{Written, put, written, Answers, Planned, ReplyTo, bytesOf, IsPlan, IsText, IsFold, IsUnfold, IsWrite, asked, periodAsked, IsMargin, IsPeriodOf, RightSaid, IsRight}
-use Rattle.theory.specs.Tests.{rightb, periodOf, planOf, askedTable, rightAnswer}
-use Rattle.theory.proofs.Says.{says-leb, says-and}
-use Rattle.theory.proofs.Verdicts.{never-refused, passed, then-first, then-rest, onwards-accepts, onwards-first}
+use Rattle.rules.specs.Answers.{Written, put, written, Answers, Planned, ReplyTo, bytesOf, IsPlan, IsText, IsFold, IsUnfold, IsWrite, IsMargin, IsPeriodOf, askedTable, YesFor, YesNo, Fit, BoardsFit, Arrive, ValuesArrive}
+use Rattle.theory.specs.Tests.{periodOf, planOf, boardsAnswer, valuesAnswer}
+use Rattle.theory.proofs.Says.{Says}
+use Rattle.theory.proofs.Verdicts.{never-refused, onwards-accepts}
 use Rattle.theory.proofs.Period.{period-unique}
-use Rattle.theory.proofs.Exists.{says-right, period-found}
+use Rattle.theory.proofs.Exists.{says-fit, says-arrive, period-found}
 use Rattle.theory.proofs.Judging.{judge-accepted}
 use Rattle.theory.proofs.Lengths.{no-farther}
 use Rattle.theory.proofs.Bytes.{reply-size}
+use Rattle.theory.proofs.Asking.{question}
 
 -- ---- answers that are facts about what was accepted
 
@@ -181,36 +181,43 @@ margin-unique s i j n q v w e f = e ∙ sym f
 pub margin-exists : (s : List ℕ) (i j n q : ℕ) → (v : Verdict ℤ) × IsMargin s i j n q v
 margin-exists s i j n q = (_, refl)
 
--- ---- is q right
+-- ---- do the boards fit at q, do the values arrive at q
 
-said-unique : (q : ℕ) (T : Table) (x y : Bool) → RightSaid q T x → RightSaid q T y → x ≡ y
-said-unique q T true y a b = sym (b .1 (a .0 refl))
-said-unique q T false true a b = a .1 (b .0 refl)
-said-unique q T false false a b = refl
+-- any question with a yes or a no about q
+module _ (P : Table → ℕ → Type 0) where
+  yes-unique : (q : ℕ) (T : Table) (x y : Bool) → YesFor P q T x → YesFor P q T y → x ≡ y
+  yes-unique q T true y a b = sym (b .1 (a .0 refl))
+  yes-unique q T false true a b = a .1 (b .0 refl)
+  yes-unique q T false false a b = refl
 
-pub right-unique : (s : List ℕ) (q : ℕ) (v w : Verdict Bool) → IsRight s q v → IsRight s q w → v ≡ w
-right-unique s q = answers-unique (RightSaid q) (said-unique q) (askedTable s q)
+  pub yes-no-unique : (s : List ℕ) (q : ℕ) (v w : Verdict Bool) → YesNo P s q v → YesNo P s q w → v ≡ w
+  yes-no-unique s q = answers-unique (YesFor P q) (yes-unique q) (askedTable s q)
 
--- a table that may be asked about q: accepted, and q from 1 to its length
-pub question : (s : List ℕ) (q : ℕ) (T : Table) → askedTable s q ≡ accepted T → Accepted T × (1 ≤ q) × (q ≤ T .len)
-unfolding asked
-question s q T e =
-    let (U, x, y) = onwards-first (judge s) (λ T. periodAsked T q 0 then accepted T) e in
-    let same : U ≡ T = cc (then-rest (periodAsked U q 0) (accepted U) y) in
-    let (low, high) =
-    says-and (leb 1 q) (leb q (U .len)) (says-leb 1 q) (says-leb q (U .len)) .0
-    (not-false _ (passed (not (leb 1 q && leb q (U .len))) ASK 0 0 (then-first (periodAsked U q 0) (accepted U) y .1)))
-    in
-    (rw same at (judge-accepted s U x), low, rw same at high)
+  -- the computed answer is the answer, where the test says what P says
+  yes-no-found : (f : Table → Bool) (s : List ℕ) (q : ℕ) → ((T : Table) → Accepted T → 1 ≤ q → Says (f T) (P T q))
+      → YesNo P s q (onwards (askedTable s q) (λ T. accepted (f T)))
+  yes-no-found f s q says =
+      answers-exist (YesFor P q) f (askedTable s q) (λ T e. let (read, low, high) = question s q T e in says T (judge-accepted s T read) low)
 
--- the computed answer is the answer
-pub right-found : (s : List ℕ) (q : ℕ) → IsRight s q (rightAnswer s q)
-unfolding rightAnswer
-right-found s q =
-    answers-exist (RightSaid q) (λ T. rightb T q) (askedTable s q) (λ T e. let (ok, low, high) = question s q T e in says-right T ok q low)
+pub boards-unique : (s : List ℕ) (q : ℕ) (v w : Verdict Bool) → BoardsFit s q v → BoardsFit s q w → v ≡ w
+boards-unique = yes-no-unique Fit
 
-pub right-exists : (s : List ℕ) (q : ℕ) → (v : Verdict Bool) × IsRight s q v
-right-exists s q = (rightAnswer s q, right-found s q)
+pub values-unique : (s : List ℕ) (q : ℕ) (v w : Verdict Bool) → ValuesArrive s q v → ValuesArrive s q w → v ≡ w
+values-unique = yes-no-unique Arrive
+
+pub boards-found : (s : List ℕ) (q : ℕ) → BoardsFit s q (boardsAnswer s q)
+unfolding boardsAnswer
+boards-found s q = yes-no-found Fit _ s q (λ T ok low. says-fit T ok q low)
+
+pub values-found : (s : List ℕ) (q : ℕ) → ValuesArrive s q (valuesAnswer s q)
+unfolding valuesAnswer
+values-found s q = yes-no-found Arrive _ s q (λ T ok low. says-arrive T ok q low)
+
+pub boards-exists : (s : List ℕ) (q : ℕ) → (v : Verdict Bool) × BoardsFit s q v
+boards-exists s q = (boardsAnswer s q, boards-found s q)
+
+pub values-exists : (s : List ℕ) (q : ℕ) → (v : Verdict Bool) × ValuesArrive s q v
+values-exists s q = (valuesAnswer s q, values-found s q)
 
 -- ---- both, of each function that writes
 pub plan-keeps : (s out : List ℕ) (w : Written) (n a b : ℕ) → IsPlan s out w → w .answer ≡ refused n a b → w .buffer ≡ out
@@ -254,5 +261,8 @@ module _ (s t : List ℕ) (near : take farthest s ≡ take farthest t) where
   pub margin-near : (i j n q : ℕ) (v : Verdict ℤ) → IsMargin s i j n q v → IsMargin t i j n q v
   margin-near i j n q v e = rw (no-farther s t near) at e
 
-  pub right-near : (q : ℕ) (v : Verdict Bool) → IsRight s q v → IsRight t q v
-  right-near q v x = rw (no-farther s t near) at x
+  pub boards-near : (q : ℕ) (v : Verdict Bool) → BoardsFit s q v → BoardsFit t q v
+  boards-near q v x = rw (no-farther s t near) at x
+
+  pub values-near : (q : ℕ) (v : Verdict Bool) → ValuesArrive s q v → ValuesArrive t q v
+  values-near q v x = rw (no-farther s t near) at x

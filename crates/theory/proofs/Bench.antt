@@ -7,10 +7,10 @@ use lib.IntN.{ℤ}
 use Rattle.rules.specs.Rows.{Reply, margin}
 use Rattle.rules.specs.Verdicts.{Verdict, accepted, _then_, onwards}
 use Rattle.rules.specs.Judge.{judge}
-use Rattle.rules.specs.Answers.{ReplyTo, IsRight, marginTest}
-use Rattle.rules.specs.Bench.{Case, replies, margins, rights, Holds, All, bench}
-use Rattle.theory.specs.Tests.{planOf, rightAnswer}
-use Rattle.theory.proofs.Answering.{reply-found, right-found}
+use Rattle.rules.specs.Answers.{ReplyTo, BoardsFit, ValuesArrive, marginTest}
+use Rattle.rules.specs.Bench.{Case, replies, margins, fits, arrives, Holds, All, bench}
+use Rattle.theory.specs.Tests.{planOf, boardsAnswer, valuesAnswer}
+use Rattle.theory.proofs.Answering.{reply-found, boards-found, values-found}
 
 -- an answer of each kind
 data Said : Type 0 where
@@ -20,22 +20,25 @@ data Said : Type 0 where
 
 -- what is computed for a case, and what stands beside it
 computed : Case → Said
-unfolding planOf onwards judge marginTest _then_ margin rightAnswer
+unfolding planOf onwards judge marginTest _then_ margin boardsAnswer valuesAnswer
 computed (replies s v) = replied (planOf s)
 computed (margins s i j n q v) = measured (onwards (judge s) (λ T. marginTest T i j n q then accepted (margin T i j n q)))
-computed (rights s q v) = decided (rightAnswer s q)
+computed (fits s q v) = decided (boardsAnswer s q)
+computed (arrives s q v) = decided (valuesAnswer s q)
 
 expected : Case → Said
 expected (replies s v) = replied v
 expected (margins s i j n q v) = measured v
-expected (rights s q v) = decided v
+expected (fits s q v) = decided v
+expected (arrives s q v) = decided v
 
 -- a case whose answer is computed holds
 computed-holds : (c : Case) → computed c ≡ expected c → Holds c
 unfolding computed expected Holds
 computed-holds (replies s v) e = let same : planOf s ≡ v = cc in subst (λ (x : Verdict Reply). ReplyTo s x) same (reply-found s)
 computed-holds (margins s i j n q v) e = cc
-computed-holds (rights s q v) e = let same : rightAnswer s q ≡ v = cc in subst (λ (x : Verdict Bool). IsRight s q x) same (right-found s q)
+computed-holds (fits s q v) e = let same : boardsAnswer s q ≡ v = cc in subst (λ (x : Verdict Bool). BoardsFit s q x) same (boards-found s q)
+computed-holds (arrives s q v) e = let same : valuesAnswer s q ≡ v = cc in subst (λ (x : Verdict Bool). ValuesArrive s q x) same (values-found s q)
 
 all-computed : (cs : List Case) → map computed cs ≡ map expected cs → All Holds cs
 unfolding All
@@ -49,6 +52,6 @@ computes : map computed bench ≡ map expected bench
 unfolding computed expected bench
 computes = refl
 
--- K1 to K10, K1's two margins and that 3 is not right for K4, each with its whole answer
+-- K1 to K10, K1's two margins, and the two questions about K4 at 3 and K7 at 2, each with its whole answer
 pub bench-holds : All Holds bench
 bench-holds = all-computed bench computes

@@ -154,8 +154,15 @@ better-carry T S le =
     }
 
 module _ (T S : Table) (okT : Accepted T) (okS : Accepted S) (le : Better T S) where
-  -- whatever the dates at which the cycles start
-  pub better-right-at : (d : ℕ → ℕ) → RightAt T d → RightAt S d
+  -- whatever the dates at which the cycles start: "what fits the boards of the first fits those of the second, what arrives in the first
+  -- arrives in the second"
+  pub better-boards : (d : ℕ → ℕ) → BoardsRightAt T d → BoardsRightAt S d
+  better-boards = carry-boards S T (λ i. i) (λ i. i) (λ a. a) (better-carry T S le)
+
+  pub better-values : (d : ℕ → ℕ) → ValuesRightAt T d → ValuesRightAt S d
+  better-values = carry-values S T (λ i. i) (λ i. i) (λ a. a) (better-carry T S le) okS okT
+
+  better-right-at : (d : ℕ → ℕ) → RightAt T d → RightAt S d
   better-right-at = carry-right S T (λ i. i) (λ i. i) (λ a. a) (better-carry T S le) okS okT
 
   -- Demand 3: "each period that is right for the first, up to the table's length, is right for the second"

@@ -14,14 +14,14 @@ use lib.Bits.{bitOr, or-add-and, and-le-r, or-lt}
 use lib.ListN.{getD, List·getD-eq-default}
 use Rattle.rules.specs.Sets.{has, In, Within}
 use Rattle.rules.specs.Table.{Table, followers, Accepted}
-use Rattle.rules.specs.Runs.{ValuesRightAt, Right, spaced, IsPeriod}
+use Rattle.rules.specs.Runs.{BoardsRightAt, ValuesRightAt, Right, spaced, IsPeriod}
 use Rattle.theory.specs.Walks.{Reach, begin, turn, IsReach}
-use Rattle.theory.specs.Tests.{step, close, reachSet, valuesFine, rightb, firstFrom, periodOf}
+use Rattle.theory.specs.Tests.{step, close, reachSet, boardsFine, valuesFine, rightb, firstFrom, periodOf}
 use Rattle.theory.proofs.Order.{Cmp, cmp}
 use Rattle.theory.proofs.Says.{Says, Known, holds, fails, known, clash-bool}
 use Rattle.theory.proofs.Sets.{in-or}
 use Rattle.theory.proofs.Modes.{in-step, grown}
-use Rattle.theory.proofs.Tests.{says-values-right, says-right-at}
+use Rattle.theory.proofs.Tests.{says-boards-right, says-values-right, says-right-at}
 use Rattle.theory.proofs.Values.{values-longer}
 use Rattle.theory.proofs.Period.{length-right}
 
@@ -119,7 +119,13 @@ module _ (T : Table) (ok : Accepted T) where
   unfolding reachSet
   in-reach = close-reach (2 ^ T .modes) (T .first) (ok .firsts .small) (omega arith) (λ m h. h) (λ m h. begin h)
 
-  -- the computed test says whether a period is right
+  -- the computed tests say whether the boards fit, whether the values arrive, and whether a period is right
+  pub says-fit : (q : ℕ) → 1 ≤ q → Says (boardsFine T (reachSet T) q) (BoardsRightAt T (spaced q))
+  says-fit q low = says-boards-right T (reachSet T) in-reach q low ok
+
+  pub says-arrive : (q : ℕ) → 1 ≤ q → Says (valuesFine T (reachSet T) q) (ValuesRightAt T (spaced q))
+  says-arrive q low = says-values-right T (reachSet T) in-reach q low ok
+
   pub says-right : (q : ℕ) → 1 ≤ q → Says (rightb T q) (Right T q)
   unfolding rightb
   says-right q low = says-right-at T (reachSet T) in-reach q low ok
@@ -144,8 +150,7 @@ module _ (T : Table) (ok : Accepted T) where
 
       found : Least (λ q. ValuesRightAt T (spaced q)) (T .len) bound
       found =
-          least-of (λ q. ValuesRightAt T (spaced q)) (valuesFine T (reachSet T))
-          (λ q low. says-values-right T (reachSet T) in-reach q low ok)
+          least-of (λ q. ValuesRightAt T (spaced q)) (valuesFine T (reachSet T)) says-arrive
           (T .len) (ok .len-low) (length-right T ok .values)
 
       above : (q : ℕ) → 1 ≤ q → ValuesRightAt T (spaced q) → Dec (q < bound) → bound ≤ q

@@ -18,7 +18,9 @@ pub mod Bytes
 pub mod Numbers
 pub mod Replies
 pub mod Text
+pub mod Asking
 pub mod Answering
+pub mod Both
 pub mod Copies
 pub mod RoundTrip
 pub mod Keeps

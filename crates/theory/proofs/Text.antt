@@ -13,6 +13,7 @@ use Rattle.rules.specs.Rows.{Row, Reply, replyOf}
 use Rattle.rules.specs.Verdicts.{Verdict, accepted, refused}
 use Rattle.rules.specs.Judge.{judge}
 use Rattle.rules.specs.Text.{digits, decimal, periodWord, opWord, startWord, fstWord, refusedWord, space, newline, rowLine, rowLines, periodLine, refusedLine, replyText, textOf, longestText}
+use Rattle.rules.specs.Words.{valueFrom, valueOf}
 use Rattle.rules.specs.Answers.{Answers, Planned, ReplyTo}
 use Rattle.rules.specs.Bench.{All, k1-bytes}
 use Rattle.theory.specs.Tests.{planOf}
@@ -95,15 +96,6 @@ decimal-length zero n h = omega (arith, ap length (decimal-small n h))
 decimal-length (suc k) n h = length-step k n (λ large. decimal-length k (n / 10) (omega arith))
 
 -- ---- what they come to
-
--- the number that digits are, read from the first to the last
-valueFrom : ℕ → List ℕ → ℕ
-valueFrom v [] = v
-valueFrom v (d ∷ ds) = valueFrom (v * 10 + (d - 48)) ds
-
-pub valueOf : List ℕ → ℕ
-unfolding valueFrom
-valueOf ds = valueFrom 0 ds
 
 value-snoc : (v : ℕ) (ds : List ℕ) (d : ℕ) → valueFrom v (ds ++ (d ∷ [])) ≡ valueFrom v ds * 10 + (d - 48)
 unfolding valueFrom

@@ -11,7 +11,7 @@ use Rattle.rules.specs.Table.{Op, Table, nops, op, endOf, heldTo}
 use Rattle.rules.specs.Rows.{Reply, replyOf}
 use Rattle.rules.specs.Verdicts.{Verdict, accepted, _then_, onwards}
 use Rattle.rules.specs.Judge.{judge}
-use Rattle.rules.specs.Answers.{asked, periodAsked}
+use Rattle.rules.specs.Answers.{asked, askedTable}
 
 -- the test f passes at each number below n
 unfoldable pub all : (ℕ → Bool) → ℕ → Bool
@@ -118,11 +118,11 @@ unfoldable pub planOf : List ℕ → Verdict Reply
 unfolding onwards judge periodOf replyOf
 planOf s = onwards (judge s) (λ T. accepted (replyOf T (periodOf T)))
 
--- the table of a question about q, where the table and the question are in order
-abbrev pub askedTable : List ℕ → ℕ → Verdict Table
-askedTable s q = onwards (judge s) (λ T. periodAsked T q 0 then accepted T)
+-- whether the boards fit at q, and whether the values arrive
+unfoldable pub boardsAnswer : List ℕ → ℕ → Verdict Bool
+unfolding onwards judge asked _then_ boardsFine reachSet
+boardsAnswer s q = onwards (askedTable s q) (λ T. accepted (boardsFine T (reachSet T) q))
 
--- the answer whether q is right
-unfoldable pub rightAnswer : List ℕ → ℕ → Verdict Bool
-unfolding onwards judge asked _then_ rightb
-rightAnswer s q = onwards (askedTable s q) (λ T. accepted (rightb T q))
+unfoldable pub valuesAnswer : List ℕ → ℕ → Verdict Bool
+unfolding onwards judge asked _then_ valuesFine reachSet
+valuesAnswer s q = onwards (askedTable s q) (λ T. accepted (valuesFine T (reachSet T) q))
