@@ -9,7 +9,7 @@ use Rattle.rules.specs.Table.{Table, nops}
 use Rattle.rules.specs.Verdicts.{Verdict, refused, ASK, _then_}
 use Rattle.rules.specs.Answers.{asked, periodAsked, marginTest}
 use Rattle.theory.proofs.Verdicts.{then-accepts, then-refuses}
-use Rattle.asks.specs.AskLaws.{asked-no, asked-yes, asked-in, asked-out}
+use Rattle.theory.proofs.Asking.{asked-no, asked-yes, asked-in, asked-out}
 
 pub margin-row : (T : Table) (i j n q : ℕ)
     → marginTest T i j n q

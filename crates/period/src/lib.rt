@@ -1,9 +1,9 @@
-// The period: whether boards fit and values arrive at a period, whether it is right, and the smallest that is.
+// The period: whether boards fit and values arrive at a period, and the smallest at which both do.
 ghost use mathlib.Core.Path.{_≡_};
 ghost use mathlib.Core.Bool.{true};
 ghost use mathlib.Core.Logic.{_↔_};
 ghost use Prim.Native.Nat.{_≤_};
-ghost use Rattle.rules.specs.Runs.{BoardsRightAt, ValuesRightAt, Right, spaced, IsPeriod};
+ghost use Rattle.rules.specs.Runs.{BoardsRightAt, ValuesRightAt, spaced, IsPeriod};
 ghost use Rattle.table.specs.Tables.{tableOf, Good};
 ghost use Rattle.turns.specs.Turns.{singles, blockFrom};
 use table::Table;
@@ -34,17 +34,6 @@ pub fn values_arrive(t: Table, q: u32) -> bool
 {
     let reached = turns::reached(t);
     values::values_bound(t, reached) <= q
-}
-
-// Both.
-pub fn is_right(t: Table, q: u32) -> bool
-    requires { ⌜ Good t × (1 ≤ q) × (q ≤ t .len) ⌝ }
-    ensures { λ r. ⌜ (r ≡ true) ↔ Right (tableOf t) q ⌝ }
-{
-    if !values_arrive(t, q) {
-        return false;
-    }
-    boards_fit(t, q)
 }
 
 // The smallest right period: values are right exactly from a bound up, so the search for the boards begins there. It goes up by one,

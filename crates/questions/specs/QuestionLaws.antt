@@ -2,21 +2,23 @@
 -- Assumes nothing.
 use Prim.Native.Nat.{ℕ, _≤_}
 use mathlib.Core.Path.{_≡_, ap, subst, subst⁻¹}
+use mathlib.Core.Bool.{Bool}
 use mathlib.Core.List.{List}
 use Rattle.rules.specs.Table.{Table}
 use Rattle.rules.specs.Verdicts.{Verdict, accepted, ASK, _then_}
-use Rattle.rules.specs.Answers.{periodAsked}
-use Rattle.theory.specs.Tests.{askedTable}
+use Rattle.rules.specs.Answers.{periodAsked, askedTable, YesFor, YesNo}
 use Rattle.theory.proofs.Verdicts.{then-accepts, then-refuses}
-use Rattle.theory.proofs.Answering.{question}
+use Rattle.theory.proofs.Asking.{asked-in, asked-out, question}
+use Rattle.theory.proofs.Judging.{judge-accepted}
 use Rattle.fields.specs.Verdicts.{refusalOf}
+use Rattle.fields.specs.declared.Refusal.{Refusal}
 use Rattle.fields.specs.declared.Refusal.the-variants.{Ask}
-use Rattle.fields.specs.declared.Verdict.the-variants.{Accepted}
+use Rattle.fields.specs.declared.Verdict.the-variants.{Accepted, Refused}
 use Rattle.table.specs.Tables.{JudgedAs, tableOf, tableIn, Good}
-use Rattle.table.specs.JudgedLaws.{granted, judged-accepted, took-good, took-table}
+use Rattle.table.specs.JudgedLaws.{granted, judged-accepted, judged-refused, took-good, took-table}
 use Rattle.table.specs.declared.Table as code
 use Rattle.table.specs.declared.Judged.{Judged}
-use Rattle.asks.specs.AskLaws.{asked-in, asked-out}
+use Rattle.asks.specs.AskLaws.{refused-answers, accepted-answers}
 
 module _ (T : Table) (q : ℕ) where
   -- q is not from 1 to the length
@@ -38,7 +40,8 @@ pub record Askable (s : List ℕ) (q : ℕ) (t : code.Table) : Type 0 where
 pub asked-accepted : (s : List ℕ) (q : ℕ) (r : Judged) → JudgedAs (askedTable s q) r → r .verdict ≡ Accepted → Askable s q (r .table)
 asked-accepted s q r j e =
     let took = judged-accepted (askedTable s q) r j e in
-    let (ok, low, high) = question s q (took .table) (took .said) in
+    let (read, low, high) = question s q (took .table) (took .said) in
+    let ok = judge-accepted s (took .table) read in
     let same = took-table took ok in
     record {
       table = took .table;
@@ -48,3 +51,11 @@ asked-accepted s q r j e =
       low = low;
       high = rw (← ap (λ (T : Table). T .len) same) at high;
     }
+
+-- ---- the answer, whichever question P is asked
+module _ (P : Table → ℕ → Type 0) (s : List ℕ) (q : ℕ) (r : Judged) (j : JudgedAs (askedTable s q) r) where
+  pub yes-no-refused : (x : Refusal) → r .verdict ≡ Refused x → YesNo P s q (refusalOf x)
+  yes-no-refused x e = refused-answers (YesFor P q) x (judged-refused (askedTable s q) r x j e)
+
+  pub yes-no-accepted : {b : Bool} → r .verdict ≡ Accepted → YesFor P q (tableOf (r .table)) b → YesNo P s q (accepted b)
+  yes-no-accepted e says = let x = asked-accepted s q r j e in accepted-answers (YesFor P q) (x .said) (rw (x .same) at says)

@@ -1,7 +1,6 @@
-// Questions about a table's bytes: whether a period is right, and the period.
+// Questions about a table's bytes: whether the boards fit at a period, whether the values arrive, and the period.
 ghost use Rattle.rules.specs.Verdicts.{accepted, _then_};
-ghost use Rattle.rules.specs.Answers.{periodAsked, IsPeriodOf, IsRight};
-ghost use Rattle.theory.specs.Tests.{askedTable};
+ghost use Rattle.rules.specs.Answers.{periodAsked, askedTable, IsPeriodOf, BoardsFit, ValuesArrive};
 ghost use Rattle.table.specs.Tables.{tableOf, Good, JudgedAs};
 ghost use Rattle.questions.specs.Questions.{truthOf, foundOf};
 use fields::Refusal;
@@ -47,15 +46,27 @@ fn ask(s: &[u8], q: u64) -> Judged
     }
 }
 
-// Whether q is a right period.
-pub fn is_right(s: &[u8], q: u64) -> Truth
-    ensures { λ r. ⌜ IsRight (now (s .entry)) q (truthOf r) ⌝ }
+// Whether the boards fit at q.
+pub fn boards_fit(s: &[u8], q: u64) -> Truth
+    ensures { λ r. ⌜ BoardsFit (now (s .entry)) q (truthOf r) ⌝ }
 {
     let judged = ask(s, q);
     let verdict = judged.verdict;
     match verdict {
         Verdict::Refused(r) => Truth::Denied(r),
-        Verdict::Accepted => Truth::Is(period::is_right(judged.table, q as u32)),
+        Verdict::Accepted => Truth::Is(period::boards_fit(judged.table, q as u32)),
+    }
+}
+
+// Whether the values arrive at q.
+pub fn values_arrive(s: &[u8], q: u64) -> Truth
+    ensures { λ r. ⌜ ValuesArrive (now (s .entry)) q (truthOf r) ⌝ }
+{
+    let judged = ask(s, q);
+    let verdict = judged.verdict;
+    match verdict {
+        Verdict::Refused(r) => Truth::Denied(r),
+        Verdict::Accepted => Truth::Is(period::values_arrive(judged.table, q as u32)),
     }
 }
 
