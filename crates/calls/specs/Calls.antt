@@ -5,9 +5,10 @@ use mathlib.Core.Path.{_≡_}
 use mathlib.Core.Bool.{Bool}
 use mathlib.Core.List.{List}
 use lib.IntN.{ℤ}
+use Rattle.rules.specs.Table.{Table}
 use Rattle.rules.specs.Verdicts.{Verdict}
 use Rattle.rules.specs.Judge.{judge, Numbers, judgeNumbers}
-use Rattle.rules.specs.Answers.{Written, IsPlan, IsFold, IsUnfold, IsWrite, IsMargin, IsPeriodOf, IsRight}
+use Rattle.rules.specs.Answers.{Written, IsPlan, IsFold, IsUnfold, IsWrite, IsMargin, IsPeriodOf, YesNo, Fit, Arrive}
 use Rattle.figures.specs.declared.Figures.{Figures}
 use Rattle.telling.specs.Telling.{toldOf, unwritten, yesOf, Ended, endedOf, endedWith}
 
@@ -43,9 +44,17 @@ UnfoldEnds s out l = (w : Written) × IsUnfold s out w × (l ≡ endedOf w)
 abbrev pub PeriodTells : List ℕ → Figures → Type 0
 PeriodTells s f = (v : Verdict ℕ) × IsPeriodOf s v × (f ≡ toldOf v)
 
--- trevozhil_is_right: a is 1 where q is right and 0 where it is not
-abbrev pub RightTells : List ℕ → ℕ → Figures → Type 0
-RightTells s q f = (v : Verdict Bool) × IsRight s q v × (f ≡ toldOf (yesOf v))
+-- a yes or a no about q: a is 1 where P holds of q and 0 where it does not
+abbrev pub YesNoTells : (Table → ℕ → Type 0) → List ℕ → ℕ → Figures → Type 0
+YesNoTells P s q f = (v : Verdict Bool) × YesNo P s q v × (f ≡ toldOf (yesOf v))
+
+-- trevozhil_boards_fit
+abbrev pub BoardsTell : List ℕ → ℕ → Figures → Type 0
+BoardsTell s q f = YesNoTells Fit s q f
+
+-- trevozhil_values_arrive
+abbrev pub ValuesTell : List ℕ → ℕ → Figures → Type 0
+ValuesTell s q f = YesNoTells Arrive s q f
 
 -- trevozhil_margin, with a place lent for the margin
 abbrev pub MarginEnds : List ℕ → ℕ → ℕ → ℕ → ℕ → ℤ → Ended ℤ → Type 0

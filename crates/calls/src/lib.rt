@@ -2,7 +2,7 @@
 ghost use Rattle.figures.specs.Figures.{figuresOf};
 ghost use Rattle.handed.specs.Handed.{numbers};
 ghost use Rattle.telling.specs.Telling.{ended};
-ghost use Rattle.calls.specs.Calls.{JudgeTells, NumbersTell, WriteEnds, PlanEnds, FoldEnds, UnfoldEnds, PeriodTells, RightTells, MarginEnds};
+ghost use Rattle.calls.specs.Calls.{JudgeTells, NumbersTell, WriteEnds, PlanEnds, FoldEnds, UnfoldEnds, PeriodTells, BoardsTell, ValuesTell, MarginEnds};
 
 // A table's bytes, judged.
 pub fn judge(s: &[u8], a: &mut u64, b: &mut u64) -> u32
@@ -59,11 +59,19 @@ pub fn period(s: &[u8], a: &mut u64, b: &mut u64) -> u32
     telling::tell(telling::found_told(found), a, b)
 }
 
-// Whether a period is right for a table.
-pub fn is_right(s: &[u8], q: u64, a: &mut u64, b: &mut u64) -> u32
-    ensures { λ r. ⌜ RightTells (now (s .entry)) q (figuresOf r (now (a .exit)) (now (b .exit))) ⌝ }
+// Whether the boards of a table fit at a period.
+pub fn boards_fit(s: &[u8], q: u64, a: &mut u64, b: &mut u64) -> u32
+    ensures { λ r. ⌜ BoardsTell (now (s .entry)) q (figuresOf r (now (a .exit)) (now (b .exit))) ⌝ }
 {
-    let truth = planner::is_right(s, q);
+    let truth = planner::boards_fit(s, q);
+    telling::tell(telling::truth_told(truth), a, b)
+}
+
+// Whether the values of a table arrive at a period.
+pub fn values_arrive(s: &[u8], q: u64, a: &mut u64, b: &mut u64) -> u32
+    ensures { λ r. ⌜ ValuesTell (now (s .entry)) q (figuresOf r (now (a .exit)) (now (b .exit))) ⌝ }
+{
+    let truth = planner::values_arrive(s, q);
     telling::tell(telling::truth_told(truth), a, b)
 }
 

@@ -9,13 +9,7 @@ use Rattle.rules.specs.Table.{Table, nops}
 use Rattle.rules.specs.Verdicts.{Verdict, refused, ASK, _then_}
 use Rattle.rules.specs.Answers.{asked, periodAsked, marginTest}
 use Rattle.theory.proofs.Verdicts.{then-accepts, then-refuses}
-use Rattle.theory.proofs.Asking.{asked-no, asked-yes, asked-in, asked-out}
-
-pub margin-row : (T : Table) (i j n q : ℕ)
-    → marginTest T i j n q
-    ≡ (asked (ltb i (nops T)) 0 then asked (ltb j (nops T)) 1 then asked (leb 1 n && leb n 1000) 2 then periodAsked T q 3)
-unfolding marginTest
-margin-row T i j n q = refl
+use Rattle.theory.proofs.Asking.{asked-no, asked-yes, asked-in, asked-out, margin-row}
 
 module _ {A : Type 0} (T : Table) (i j n q : ℕ) (w : Verdict A) where
   pub ask-i : nops T ≤ i → (marginTest T i j n q then w) ≡ refused ASK 0 0

@@ -4,8 +4,8 @@ use Prim.Native.Nat.{ℕ}
 use mathlib.Core.Path.{_≡_, sym, ap, _∙_}
 use mathlib.Core.List.{List}
 use Rattle.rules.specs.Judge.{Numbers}
-use Rattle.rules.specs.Answers.{IsPlan, IsFold, IsUnfold, IsWrite, IsMargin, IsPeriodOf, IsRight}
-use Rattle.theory.proofs.Answering.{plan-unique, text-unique, fold-unique, unfold-unique, write-unique, margin-unique, period-of-unique, right-unique}
+use Rattle.rules.specs.Answers.{IsPlan, IsFold, IsUnfold, IsWrite, IsMargin, IsPeriodOf, BoardsFit, ValuesArrive}
+use Rattle.theory.proofs.Answering.{plan-unique, text-unique, fold-unique, unfold-unique, write-unique, margin-unique, period-of-unique, boards-unique, values-unique}
 use Rattle.fields.specs.declared.Answer.{Answer}
 use Rattle.fields.specs.Verdicts.{answered, leaving}
 use Rattle.fields.proofs.Told.{leaving-one}
@@ -45,8 +45,11 @@ text-one s x y (b, p, e) (c, q, f) = e ∙ ap textIn (text-unique s b c p q) ∙
 pub margin-one : (x y : Measured) (s : List ℕ) (i j n q : ℕ) → IsMargin s i j n q (measuredOf x) → IsMargin s i j n q (measuredOf y) → x ≡ y
 margin-one x y s i j n q p r = measured-one x y (margin-unique s i j n q _ _ p r)
 
-pub right-one : (x y : Truth) (s : List ℕ) (q : ℕ) → IsRight s q (truthOf x) → IsRight s q (truthOf y) → x ≡ y
-right-one x y s q p r = truth-one x y (right-unique s q _ _ p r)
+pub boards-one : (x y : Truth) (s : List ℕ) (q : ℕ) → BoardsFit s q (truthOf x) → BoardsFit s q (truthOf y) → x ≡ y
+boards-one x y s q p r = truth-one x y (boards-unique s q _ _ p r)
+
+pub values-one : (x y : Truth) (s : List ℕ) (q : ℕ) → ValuesArrive s q (truthOf x) → ValuesArrive s q (truthOf y) → x ≡ y
+values-one x y s q p r = truth-one x y (values-unique s q _ _ p r)
 
 pub period-one : (x y : Found) (s : List ℕ) → IsPeriodOf s (foundOf x) → IsPeriodOf s (foundOf y) → x ≡ y
 period-one x y s p q = found-one x y (period-of-unique s _ _ p q)

@@ -1,5 +1,5 @@
 // The planner: the public functions. Each promise is a definition of `rules` about the answer, told in document 01's numbers.
-ghost use Rattle.rules.specs.Answers.{IsPlan, IsFold, IsUnfold, IsMargin, IsPeriodOf, IsRight, IsWrite};
+ghost use Rattle.rules.specs.Answers.{IsPlan, IsFold, IsUnfold, IsMargin, IsPeriodOf, BoardsFit, ValuesArrive, IsWrite};
 ghost use Rattle.fields.specs.Verdicts.{answered, leaving};
 ghost use Rattle.handed.specs.Handed.{numbers};
 ghost use Rattle.questions.specs.Questions.{truthOf, foundOf};
@@ -50,11 +50,18 @@ pub fn margin(s: &[u8], i: u64, j: u64, n: u64, q: u64) -> Measured
     margins::margin(s, i, j, n, q)
 }
 
-// Whether q is a right period.
-pub fn is_right(s: &[u8], q: u64) -> Truth
-    ensures { λ r. ⌜ IsRight (now (s .entry)) q (truthOf r) ⌝ }
+// Whether the boards fit at the period q.
+pub fn boards_fit(s: &[u8], q: u64) -> Truth
+    ensures { λ r. ⌜ BoardsFit (now (s .entry)) q (truthOf r) ⌝ }
 {
-    questions::is_right(s, q)
+    questions::boards_fit(s, q)
+}
+
+// Whether the values arrive at the period q.
+pub fn values_arrive(s: &[u8], q: u64) -> Truth
+    ensures { λ r. ⌜ ValuesArrive (now (s .entry)) q (truthOf r) ⌝ }
+{
+    questions::values_arrive(s, q)
 }
 
 // The period: the smallest that is right.

@@ -53,7 +53,7 @@ fn yes_told(yes: bool) -> Figures
     figures::numbered(0, 0, 0)
 }
 
-// The answer to "is q right".
+// The answer to a question with a yes or a no.
 pub fn truth_told(x: Truth) -> Figures
     ensures { λ f. ⌜ f ≡ toldOf (yesOf (truthOf x)) ⌝ }
 {

@@ -1,16 +1,16 @@
 -- What a test of a number that is asked for comes to, and the table of a question about q.
 -- Assumes nothing.
-use Prim.Native.Nat.{ℕ, _≤_}
+use Prim.Native.Nat.{ℕ, _<_, _≤_}
 use mathlib.Core.Path.{_≡_, refl, sym, ap, subst⁻¹, _∙_}
 use mathlib.Core.Bool.{Bool, true, false, not, _&&_}
 use mathlib.Core.List.{List}
-use lib.Dec.{leb}
+use lib.Dec.{leb, ltb}
 use borrow.Author.Tests.{not-false}
-use Rattle.rules.specs.Table.{Table}
+use Rattle.rules.specs.Table.{Table, nops}
 use Rattle.rules.specs.Verdicts.{Verdict, accepted, refused, ASK, _then_, onwards}
 use Rattle.rules.specs.Judge.{judge}
-use Rattle.rules.specs.Answers.{Answers, asked, periodAsked, askedTable, YesFor, YesNo}
-use Rattle.theory.proofs.Says.{says-leb, says-and, Known, known, holds, fails}
+use Rattle.rules.specs.Answers.{Answers, asked, periodAsked, marginTest, askedTable, YesFor, YesNo}
+use Rattle.theory.proofs.Says.{says-leb, says-ltb, says-and, Known, known, holds, fails}
 use Rattle.theory.proofs.Verdicts.{never-refused, passes, passed, refuses, then-first, then-rest, then-accepts, onwards-accepts, onwards-first}
 
 -- ---- one test
@@ -41,6 +41,29 @@ module _ (x top place : ℕ) where
   unfolding asked
   asked-passed e =
       says-and (leb 1 x) (leb x top) (says-leb 1 x) (says-leb x top) .0 (not-false _ (passed (not (leb 1 x && leb x top)) ASK place 0 e))
+
+-- a number below a bound
+below-passed : (x top place : ℕ) → asked (ltb x top) place ≡ accepted tt → x < top
+unfolding asked
+below-passed x top place e = says-ltb x top .0 (not-false _ (passed (not (ltb x top)) ASK place 0 e))
+
+-- ---- the four tests of a margin
+module _ (T : Table) (i j n q : ℕ) where
+  pub margin-row : marginTest T i j n q
+      ≡ (asked (ltb i (nops T)) 0 then asked (ltb j (nops T)) 1 then asked (leb 1 n && leb n 1000) 2 then periodAsked T q 3)
+  unfolding marginTest
+  margin-row = refl
+
+  pub margin-passed : marginTest T i j n q ≡ accepted tt → (i < nops T) × (j < nops T) × (n ≤ 1000) × (q ≤ T .len)
+  margin-passed e =
+      let all = sym margin-row ∙ e in
+      let behind-i = then-rest (asked (ltb i (nops T)) 0) _ all in
+      let behind-j = then-rest (asked (ltb j (nops T)) 1) _ behind-i in (
+        below-passed i (nops T) 0 (then-first (asked (ltb i (nops T)) 0) _ all .1),
+        below-passed j (nops T) 1 (then-first (asked (ltb j (nops T)) 1) _ behind-i .1),
+        asked-passed n 1000 2 (then-first (asked (leb 1 n && leb n 1000) 2) _ behind-j .1) .1,
+        asked-passed q (T .len) 3 (then-rest (asked (leb 1 n && leb n 1000) 2) _ behind-j) .1,
+      )
 
 -- ---- a table that may be asked about q: accepted, and q from 1 to its length
 module _ (s : List ℕ) (q : ℕ) (T : Table) where

@@ -1,4 +1,4 @@
--- The length of an accepted table's bytes, and that no verdict depends on bytes past 821.
+-- The length of an accepted table's bytes, and that no verdict depends on bytes past 821; none on a reply on bytes past 232.
 -- Assumes nothing.
 use Prim.Native.Nat.{ℕ, zero, suc, _+_, _-_, _*_, _<_, _≤_}
 use mathlib.Core.Path.{_≡_, refl, sym, ap, subst, _∙_}
@@ -11,15 +11,17 @@ use lib.Seq.{getD-take}
 use borrow.Author.Tests.{eqb-false}
 use Rattle.rules.specs.Sets.{Overlap}
 use Rattle.rules.specs.Table.{Op, Table, noOp, nops, op, endOf, SetOf, Accepted}
-use Rattle.rules.specs.Verdicts.{accepted, refused, MANY, CLASH}
-use Rattle.rules.specs.Bytes.{num8, num16, num32, words, opAt, tableBytes, longestTable, farthest}
-use Rattle.rules.specs.Judge.{needed, header, due, notMany, sized, complete, fieldTest, repeatTest, fieldsFrom, lenOk, countsOk, setOk, eachSetOk, opOk, clashes, headTest, headOf, opsFrom, opsPlace, judge}
+use Rattle.rules.specs.Rows.{Row, ticks}
+use Rattle.rules.specs.Verdicts.{Verdict, accepted, refused, MANY, CLASH, _then_, onwards}
+use Rattle.rules.specs.Bytes.{num8, num16, num32, words, opAt, rowAt, tableBytes, longestTable, farthest}
+use Rattle.rules.specs.Judge.{needed, header, due, notMany, sized, complete, fieldTest, repeatTest, fieldsFrom, lenOk, countsOk, setOk, eachSetOk, opOk, clashes, headTest, headOf, opsFrom, opsPlace, judge, rowOk, rowsFrom, judgeReply}
 use Rattle.rules.specs.Bench.{opn, oneMode}
-use Rattle.theory.proofs.Says.{Says, says-leb, says-ltb}
+use Rattle.theory.proofs.Says.{says-same, says-leb, says-ltb}
 use Rattle.theory.proofs.Verdicts.{passed, then-refuses, then-same}
 use Rattle.theory.proofs.Judging.{field-row, repeat-row, fields-end, fields-next, head-row, head-ok, judge-row, field-passed, says-counts, HeadOk, pairs-first, whole-row, whole-accepted, judge-parts, judge-accepted}
 use Rattle.theory.proofs.Bytes.{table-length}
 use Rattle.theory.proofs.Numbers.{ranges-written, write-read}
+use Rattle.theory.proofs.Replies.{reply-row}
 
 -- a table's bytes: 18, 4 for each mode and 21 for each operation
 pub table-size : (s : List ℕ) (T : Table) → judge s ≡ accepted T → length s ≡ 18 + 4 * T .modes + 21 * nops T
@@ -147,12 +149,6 @@ clash-of-32 =
 
 -- ---- an input and its first n bytes
 
--- two tests are the same where what they say is
-says-same : {P Q : Type 0} (a b : Bool) → Says a P → Says b Q → (P → Q) → (Q → P) → a ≡ b
-says-same true b s t f g = sym (t .1 (f (s .0 refl)))
-says-same false true s t f g = s .1 (g (t .0 refl))
-says-same false false s t f g = refl
-
 -- counts in their ranges: 32 modes at most
 pub modes-few : (H : Table) → countsOk (H .boards) (H .cells) (H .modes) ≡ true → H .modes ≤ 32
 modes-few H e = says-counts (H .boards) (H .cells) (H .modes) .0 e .1 .1 .1 .1
@@ -272,6 +268,25 @@ module _ (n : ℕ) (s : List ℕ) where
   unfolding opsFrom
   ops-near H at h = fields-near 4 18 (opOk H) opAt (λ i k. op-near i (omega arith)) 32 at (omega arith)
 
+  -- ---- a reply: its period, 32 rows of 7 bytes, and one header more
+  row-near : (at : ℕ) → at + 7 ≤ n → rowAt (take n s) at ≡ rowAt s at
+  row-near at h = cc (num16-near (at + 3) (omega arith), num16-near (at + 5) (omega arith))
+
+  reply-front : 232 ≤ n → judgeReply (take n s) ≡ judgeReply s
+  unfolding rowsFrom
+  reply-front enough =
+      let period : num16 (take n s) 3 ≡ num16 s 3 = num16-near 3 (omega arith) in
+      let front : (fieldTest (take n s) 0 17 2 (lenOk (num16 (take n s) 3)) then needed (take n s) 5) ≡ (fieldTest s 0 17 2 (lenOk (num16 s 3)) then needed s 5) =
+      cc (field-near 0 17 2 (omega arith) (ap lenOk period), needed-near 5 (omega arith))
+      in
+      reply-row (take n s)
+      ∙ then-same front
+      (λ _ _.
+      rw period
+      (ap (λ (v : Verdict (List Row)). onwards v (λ rs. accepted (record { period = ticks (num16 s 3); rows = rs })))
+      (fields-near 18 4 (rowOk (ticks (num16 s 3))) rowAt (λ i k. row-near i (omega arith)) 32 5 (omega arith))))
+      ∙ sym (reply-row s)
+
   -- ---- the whole input
   module _ (enough : farthest ≤ n) where
     -- the ranges of the first two fields
@@ -325,3 +340,6 @@ judge-near s = judge-front farthest s (omega arith)
 -- two inputs that differ only past byte 821 have one verdict
 pub no-farther : (s t : List ℕ) → take farthest s ≡ take farthest t → judge s ≡ judge t
 no-farther s t e = sym (judge-near s) ∙ ap judge e ∙ judge-near t
+
+pub reply-no-farther : (s t : List ℕ) → take farthest s ≡ take farthest t → judgeReply s ≡ judgeReply t
+reply-no-farther s t e = sym (reply-front farthest s (omega arith)) ∙ ap judgeReply e ∙ reply-front farthest t (omega arith)

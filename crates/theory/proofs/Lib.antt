@@ -19,8 +19,10 @@ pub mod Numbers
 pub mod Replies
 pub mod Text
 pub mod Asking
+pub mod Beyond
 pub mod Answering
 pub mod Both
+pub mod Saying
 pub mod Copies
 pub mod RoundTrip
 pub mod Keeps

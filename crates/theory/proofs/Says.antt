@@ -16,6 +16,12 @@ Says b P = (b ≡ true) ↔ P
 pub says-by : {P Q : Type 0} {b : Bool} → Says b P → (P → Q) → (Q → P) → Says b Q
 says-by s f g = (λ e. f (s .0 e), λ q. s .1 (g q))
 
+-- two tests are the same where what they say is
+pub says-same : {P Q : Type 0} (a b : Bool) → Says a P → Says b Q → (P → Q) → (Q → P) → a ≡ b
+says-same true b s t f g = sym (t .1 (f (s .0 refl)))
+says-same false true s t f g = s .1 (g (t .0 refl))
+says-same false false s t f g = refl
+
 -- a test is true or it is not
 pub data Known (b : Bool) : Type 0 where
   holds : b ≡ true → Known b

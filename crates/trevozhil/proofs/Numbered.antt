@@ -10,11 +10,10 @@ use lib.ListN.{length}
 use Rattle.rules.specs.Table.{Table}
 use Rattle.rules.specs.Verdicts.{Verdict, accepted, refused, refuseIf, _then_, onwards}
 use Rattle.rules.specs.Judge.{judge, Numbers, judgeNumbers, judgeReply}
-use Rattle.rules.specs.Answers.{Written, put, Answers, asked, marginTest}
-use Rattle.theory.specs.Tests.{askedTable}
+use Rattle.rules.specs.Answers.{Written, put, Answers, asked, askedTable, marginTest}
 use Rattle.theory.proofs.Bounded.{Bounded, judge-bounded, numbers-bounded, reply-bounded}
 use Rattle.theory.proofs.Answering.{put-room, put-short}
-use Rattle.margins.specs.MarginLaws.{margin-row}
+use Rattle.theory.proofs.Asking.{margin-row}
 
 -- the numbers of refusals
 abbrev Refuses : ℕ → Type 0

@@ -14,15 +14,14 @@ use Rattle.rules.specs.Rows.{Reply, startsOf, margin}
 use Rattle.rules.specs.Verdicts.{Verdict, accepted, refused, _then_, onwards}
 use Rattle.rules.specs.Bytes.{tableBytes, replyBytes, startsBytes}
 use Rattle.rules.specs.Judge.{judge, judgeReply, Numbers, judgeNumbers}
-use Rattle.rules.specs.Answers.{Written, put, written, bytesOf, Answers, Planned, ReplyTo, IsText, periodAsked, marginTest, RightSaid}
-use Rattle.theory.specs.Tests.{askedTable}
-use Rattle.theory.proofs.Verdicts.{never-refused, then-accepts, then-first, then-rest, onwards-accepts, onwards-first}
-use Rattle.theory.proofs.Answering.{put-room, put-short, question}
+use Rattle.rules.specs.Answers.{Written, put, written, bytesOf, Planned, ReplyTo, IsText, askedTable, YesFor, Fit, Arrive, marginTest}
+use Rattle.theory.proofs.Verdicts.{never-refused, then-accepts, then-first, onwards-accepts, onwards-first}
+use Rattle.theory.proofs.Answering.{put-room, put-short}
+use Rattle.theory.proofs.Asking.{question, questioned, answered-first, answered-back}
 use Rattle.figures.specs.declared.Figures.{Figures}
 use Rattle.figures.specs.Figures.{figuresOf}
-use Rattle.asks.specs.AskLaws.{asked-in}
 use Rattle.telling.specs.Telling.{toldOf, unwritten, yesOf, Ended, ended, endedOf, endedWith}
-use Rattle.calls.specs.Calls.{JudgeTells, NumbersTell, WriteEnds, PlanEnds, FoldEnds, UnfoldEnds, PeriodTells, RightTells, MarginEnds}
+use Rattle.calls.specs.Calls.{JudgeTells, NumbersTell, WriteEnds, PlanEnds, FoldEnds, UnfoldEnds, PeriodTells, YesNoTells, BoardsTell, ValuesTell, MarginEnds}
 use Rattle.trevozhil.proofs.Numbered.{Numbered, good, bad, then-numbered, onwards-numbered, judge-numbered, numbers-numbered, reply-numbered, asked-table-numbered, margin-numbered, put-numbered, answers-numbered}
 
 -- 0 is told exactly where P holds, and no number above 9
@@ -132,18 +131,6 @@ pub fold-zero : (s out : List ℕ) (l : Ended (List ℕ)) → FoldEnds s out l
     → (text : List ℕ) × IsText s text × ZeroAlone (l .told) (length text ≤ length out) × (length text ≤ length out → l ≡ inFront text out)
 fold-zero s out l (w, (text, is, p), e) = (text, is, put-zero text out l (e ∙ ap endedOf p), put-front text out l (e ∙ ap endedOf p))
 
--- ---- answers that are facts about what was accepted
-
-answered-first : {A B : Type 0} (P : A → B → Type 0) (u : Verdict A) (v : Verdict B) {y : B} → Answers P u v → v ≡ accepted y → (x : A) × (u ≡ accepted x) × P x y
-unfolding Answers
-answered-first P (accepted x) v {y} a e = let same : a .0 ≡ y = cc (a .2, e) in (x, refl, rw same at (a .1))
-answered-first P (refused n b c) v a e = never-refused (sym a ∙ e)
-
-answered-back : {A B : Type 0} (P : A → B → Type 0) (u : Verdict A) (v : Verdict B) {x : A} → Answers P u v → u ≡ accepted x → (y : B) × (v ≡ accepted y)
-unfolding Answers
-answered-back P (accepted x) v a e = (a .0, a .2)
-answered-back P (refused n b c) v a e = never-refused e
-
 -- ---- questions
 
 -- trevozhil_period: where the table is accepted; a is its period
@@ -154,29 +141,30 @@ period-zero s f (v, r, e) =
     let (T, y, period) = answered-first IsPeriod (judge s) v r x in
     let same : f .a ≡ n = ap (λ (g : Figures). g .a) (e ∙ ap toldOf x) in
     (T, y, rw same period))
-    (λ (T, y, period). answered-back IsPeriod (judge s) v r y)
+    (λ (T, y, period). let (n, _, x) = answered-back IsPeriod (judge s) v r y in (n, x))
 
--- a table that may be asked about q
-asked-both : (s : List ℕ) (q : ℕ) (T : Table) → askedTable s q ≡ accepted T → (judge s ≡ accepted T) × (1 ≤ q) × (q ≤ T .len)
-asked-both s q T e =
-    let (ok, low, high) = question s q T e in
-    let (U, x, y) = onwards-first (judge s) (λ T. periodAsked T q 0 then accepted T) e in
-    let same : U ≡ T = cc (then-rest (periodAsked U q 0) (accepted U) y) in
-    (x ∙ ap accepted same, low, high)
-
--- trevozhil_is_right: where the table is accepted and q is from 1 to its length; a is 1 for yes and 0 for no
-pub right-zero : (s : List ℕ) (q : ℕ) (f : Figures) → RightTells s q f
-    → ZeroAlone f ((T : Table) × (judge s ≡ accepted T) × (1 ≤ q) × (q ≤ T .len) × (is : Bool) × RightSaid q T is × (f .a ≡ cond is 1 0))
+-- a yes or a no about q: where the table is accepted and q is from 1 to its length; a is 1 for yes and 0 for no
+yes-no-zero : (P : Table → ℕ → Type 0) (s : List ℕ) (q : ℕ) (f : Figures) → YesNoTells P s q f
+    → ZeroAlone f ((T : Table) × (judge s ≡ accepted T) × (1 ≤ q) × (q ≤ T .len) × (is : Bool) × YesFor P q T is × (f .a ≡ cond is 1 0))
 unfolding yesOf
-right-zero s q f (v, r, e) =
-    zero-as e (onwards-zero v (λ is. cond is 1 0) (answers-numbered (RightSaid q) (asked-table-numbered s q) r))
+yes-no-zero P s q f (v, r, e) =
+    zero-as e (onwards-zero v (λ is. cond is 1 0) (answers-numbered (YesFor P q) (asked-table-numbered s q) r))
     (λ (is, x).
-    let (T, y, right) = answered-first (RightSaid q) (askedTable s q) v r x in
-    let (read, low, high) = asked-both s q T y in
-    (T, read, low, high, is, right, ap (λ (g : Figures). g .a) (e ∙ ap toldOf (onwards-accepts (λ is. accepted (cond is 1 0)) x))))
-    (λ (T, read, low, high, is, right, figure).
-    answered-back (RightSaid q) (askedTable s q) v r
-    (onwards-accepts (λ T. periodAsked T q 0 then accepted T) read ∙ then-accepts (accepted T) (asked-in q (T .len) 0 low high)))
+    let (T, y, says) = answered-first (YesFor P q) (askedTable s q) v r x in
+    let (read, low, high) = question s q T y in
+    (T, read, low, high, is, says, ap (λ (g : Figures). g .a) (e ∙ ap toldOf (onwards-accepts (λ is. accepted (cond is 1 0)) x))))
+    (λ (T, read, low, high, is, says, figure).
+    let (said, _, x) = answered-back (YesFor P q) (askedTable s q) v r (questioned s q T read low high) in (said, x))
+
+-- trevozhil_boards_fit
+pub boards-zero : (s : List ℕ) (q : ℕ) (f : Figures) → BoardsTell s q f
+    → ZeroAlone f ((T : Table) × (judge s ≡ accepted T) × (1 ≤ q) × (q ≤ T .len) × (is : Bool) × YesFor Fit q T is × (f .a ≡ cond is 1 0))
+boards-zero = yes-no-zero Fit
+
+-- trevozhil_values_arrive
+pub values-zero : (s : List ℕ) (q : ℕ) (f : Figures) → ValuesTell s q f
+    → ZeroAlone f ((T : Table) × (judge s ≡ accepted T) × (1 ≤ q) × (q ≤ T .len) × (is : Bool) × YesFor Arrive q T is × (f .a ≡ cond is 1 0))
+values-zero = yes-no-zero Arrive
 
 -- what is told of a margin is told of its verdict
 margin-figures : (v : Verdict ℤ) (before : ℤ) → endedWith v before .told ≡ toldOf (unwritten v)

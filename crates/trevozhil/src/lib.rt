@@ -2,7 +2,7 @@
 ghost use Rattle.figures.specs.Figures.{figuresOf};
 ghost use Rattle.handed.specs.Handed.{numbers};
 ghost use Rattle.telling.specs.Telling.{ended};
-ghost use Rattle.calls.specs.Calls.{JudgeTells, NumbersTell, WriteEnds, PlanEnds, FoldEnds, UnfoldEnds, PeriodTells, RightTells, MarginEnds};
+ghost use Rattle.calls.specs.Calls.{JudgeTells, NumbersTell, WriteEnds, PlanEnds, FoldEnds, UnfoldEnds, PeriodTells, BoardsTell, ValuesTell, MarginEnds};
 
 // A table's bytes, judged.
 #[no_mangle]
@@ -57,12 +57,20 @@ pub extern "C" fn trevozhil_period(s: &[u8], a: &mut u64, b: &mut u64) -> u32
     calls::period(s, a, b)
 }
 
-// Whether a period is right for a table.
+// Whether the boards of a table fit at a period.
 #[no_mangle]
-pub extern "C" fn trevozhil_is_right(s: &[u8], q: u64, a: &mut u64, b: &mut u64) -> u32
-    ensures { λ r. ⌜ RightTells (now (s .entry)) q (figuresOf r (now (a .exit)) (now (b .exit))) ⌝ }
+pub extern "C" fn trevozhil_boards_fit(s: &[u8], q: u64, a: &mut u64, b: &mut u64) -> u32
+    ensures { λ r. ⌜ BoardsTell (now (s .entry)) q (figuresOf r (now (a .exit)) (now (b .exit))) ⌝ }
 {
-    calls::is_right(s, q, a, b)
+    calls::boards_fit(s, q, a, b)
+}
+
+// Whether the values of a table arrive at a period.
+#[no_mangle]
+pub extern "C" fn trevozhil_values_arrive(s: &[u8], q: u64, a: &mut u64, b: &mut u64) -> u32
+    ensures { λ r. ⌜ ValuesTell (now (s .entry)) q (figuresOf r (now (a .exit)) (now (b .exit))) ⌝ }
+{
+    calls::values_arrive(s, q, a, b)
 }
 
 // The reply to a table: its period and rows.
