@@ -93,11 +93,20 @@ uint32_t trevozhil_write(uint64_t p, uint64_t boards, uint64_t cells, uint64_t m
 uint32_t trevozhil_period(const uint8_t *s, size_t s_len, uint64_t *a, uint64_t *b);
 
 /*
- * Whether q is a right period of a table.
- * Answers 0 with 1 (it is) or 0 (it is not) in *a, or a refusal from 1 to 7, or ASK where q is not from 1 to the
+ * Whether the boards of a table fit at the period q: in no run of modes do two running steps hold one board at once.
+ * Answers 0 with 1 (they fit) or 0 (they do not) in *a, or a refusal from 1 to 7, or ASK where q is not from 1 to the
  * table's length; ASK comes last.
+ * A period is right exactly when trevozhil_boards_fit and trevozhil_values_arrive both say yes.
  */
-uint32_t trevozhil_is_right(const uint8_t *s, size_t s_len, uint64_t q, uint64_t *a, uint64_t *b);
+uint32_t trevozhil_boards_fit(const uint8_t *s, size_t s_len, uint64_t q, uint64_t *a, uint64_t *b);
+
+/*
+ * Whether the values of a table arrive at the period q: in every run of modes each step reads the value that it would
+ * have read with no overlap.
+ * Answers 0 with 1 (they arrive) or 0 (they do not) in *a, or a refusal from 1 to 7, or ASK where q is not from 1 to
+ * the table's length; ASK comes last.
+ */
+uint32_t trevozhil_values_arrive(const uint8_t *s, size_t s_len, uint64_t q, uint64_t *a, uint64_t *b);
 
 /*
  * Folds a table onto its period, and writes the reply's bytes to out, which has room for out_len bytes: the period,

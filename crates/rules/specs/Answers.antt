@@ -15,7 +15,7 @@ use Rattle.rules.specs.Verdicts.{Verdict, accepted, refused, ROOM, ASK, 
 use Rattle.rules.specs.Bytes.{tableBytes, replyBytes, startsBytes}
 use Rattle.rules.specs.Judge.{judge, Numbers, judgeNumbers, judgeReply}
 use Rattle.rules.specs.Text.{textOf, told, yesNoLine, marginLine, startsText}
-use Rattle.rules.specs.Words.{Question, foldAsked, boardsAsked, valuesAsked, marginAsked, unfoldAsked, nothingAsked, questionOf, askable}
+use Rattle.rules.specs.Words.{Question, foldAsked, boardsAsked, valuesAsked, marginAsked, unfoldAsked, nothingAsked, questionOf, isAsked, askable}
 
 -- ---- a lent buffer
 
@@ -148,12 +148,8 @@ pub record Printed : Type 0 where
 
 -- words that ask nothing "get a short list of what can be asked on standard error and nothing on standard output"
 unfoldable pub printed : Question → List ℕ → Printed
-printed foldAsked text = record { out = text; err = [] }
-printed (boardsAsked q) text = record { out = text; err = [] }
-printed (valuesAsked q) text = record { out = text; err = [] }
-printed (marginAsked i j n q) text = record { out = text; err = [] }
-printed unfoldAsked text = record { out = text; err = [] }
-printed nothingAsked text = record { out = []; err = text }
+unfolding isAsked
+printed q text = cond (isAsked q) (record { out = text; err = [] }) (record { out = []; err = text })
 
 abbrev pub IsPrinted : List (List ℕ) → List ℕ → Printed → Type 0
 IsPrinted ws s p = (text : List ℕ) × IsSaid (questionOf ws) s text × (p ≡ printed (questionOf ws) text)

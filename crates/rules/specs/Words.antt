@@ -1,7 +1,7 @@
 -- The words behind the program's name: what they ask for. `fold` without words is document 01's; the others ask about what is on standard input.
 -- Assumes nothing.
 use Prim.Native.Nat.{ℕ, _+_, _-_, _*_}
-use mathlib.Core.Bool.{Bool, true, false, cond, not, _&&_}
+use mathlib.Core.Bool.{Bool, true, false, cond, _&&_}
 use mathlib.Core.List.{List, [], _∷_, _++_, map}
 use lib.Dec.{leb, eqb}
 
@@ -108,6 +108,15 @@ asks (other ∷ ws) = nothingAsked
 unfoldable pub questionOf : List (List ℕ) → Question
 unfolding asks wordOf
 questionOf ws = asks (map wordOf ws)
+
+-- whether they ask anything
+unfoldable pub isAsked : Question → Bool
+isAsked foldAsked = true
+isAsked (boardsAsked q) = true
+isAsked (valuesAsked q) = true
+isAsked (marginAsked i j n q) = true
+isAsked unfoldAsked = true
+isAsked nothingAsked = false
 
 -- ---- "a short list of what can be asked"
 
