@@ -4,7 +4,7 @@
 //! To add a function: declare it in `library`, give it a line in FUNCTIONS of
 //! `findings`, and compare it in the draw that has its inputs (or in one more draw).
 
-use crate::answers::{self, is_right, reply_bytes, start_bytes, starts_of, LONGEST_REPLY};
+use crate::answers::{self, reply_bytes, start_bytes, starts_of, LONGEST_REPLY};
 use crate::examples::K1;
 use crate::findings::{lent, memory_for, planned, Findings, Seen};
 use crate::generate::{self, Seed};
@@ -90,10 +90,39 @@ fn compare_judge(bytes: &[u8], findings: &mut Findings) {
     compare_question("judge", bytes, library::judge, answer, findings);
 }
 
-fn compare_is_right(bytes: &[u8], q: u64, findings: &mut Findings) {
-    let answer = is_right(bytes, q).map(|yes| yes as usize);
-    let call = |s: &mut [u8]| library::is_right(s, q);
-    compare_question("is_right", bytes, call, answer, findings);
+/// A question about a table at a period: the names under which its refusals, its yes and
+/// its no are counted, the library's function and the planner's.
+struct AtPeriod {
+    names: [&'static str; 3],
+    call: fn(&mut [u8], u64) -> Said,
+    answer: fn(&[u8], u64) -> Result<bool, Refusal>,
+}
+
+const AT_PERIOD: [AtPeriod; 2] = [
+    AtPeriod {
+        names: ["boards_fit", "boards_fit, yes", "boards_fit, no"],
+        call: library::boards_fit,
+        answer: answers::boards_fit,
+    },
+    AtPeriod {
+        names: ["values_arrive", "values_arrive, yes", "values_arrive, no"],
+        call: library::values_arrive,
+        answer: answers::values_arrive,
+    },
+];
+
+/// Both questions at a period.
+fn compare_at_period(bytes: &[u8], q: u64, findings: &mut Findings) {
+    for question in &AT_PERIOD {
+        let answer = (question.answer)(bytes, q);
+        let name = match answer {
+            Err(_) => question.names[0],
+            Ok(true) => question.names[1],
+            Ok(false) => question.names[2],
+        };
+        let call = |s: &mut [u8]| (question.call)(s, q);
+        compare_question(name, bytes, call, answer.map(usize::from), findings);
+    }
 }
 
 /// The bytes of numbers side by side.
@@ -153,18 +182,18 @@ fn draw_bytes(seed: &mut Seed, findings: &mut Findings) {
     compare_judge(&bytes, findings);
     // whole tables have draws of their own; here it is the damaged ones
     if judge(&bytes).is_err() {
-        compare_is_right(&bytes, generate::period_question(seed, 1000), findings);
+        compare_at_period(&bytes, generate::period_question(seed, 1000), findings);
         let asked = generate::margin_question(seed, 32, 1000);
         compare_margin(&bytes, asked, seed, findings);
         compare_folds(&bytes, ROOMS, seed, findings);
     }
 }
 
-/// An accepted table: whether some period is right, some margin, its period and what is
-/// written into so many buffers, and its starts back from the reply.
+/// An accepted table: its boards and its values at some period, some margin, its period
+/// and what is written into so many buffers, and its starts back from the reply.
 fn draw_table(table: &Table, most: usize, seed: &mut Seed, findings: &mut Findings) {
     let bytes = bytes_of(table);
-    compare_is_right(&bytes, generate::period_question(seed, table.len), findings);
+    compare_at_period(&bytes, generate::period_question(seed, table.len), findings);
     let asked = generate::margin_question(seed, table.ops.len() as u64, table.len);
     compare_margin(&bytes, asked, seed, findings);
     compare_folds(&bytes, most, seed, findings);
@@ -203,6 +232,7 @@ fn fixed_bytes(seed: &mut Seed, findings: &mut Findings) {
     let k1 = bytes_in(K1).expect("the example is hexadecimal text");
     for bytes in all_damages(&k1) {
         compare_judge(&bytes, findings);
+        compare_at_period(&bytes, generate::period_question(seed, 5), findings);
         compare_folds(&bytes, 1, seed, findings);
     }
     let reply = answers::fold(&k1).expect("K1 is accepted");

@@ -3,7 +3,7 @@
 
 use crate::judge::{demand, judge, number_in, push_field, push_number, put};
 use crate::judge::{Fields, Refusal, Table, ASK, MOST_OPS, RANGE};
-use crate::walks::{period, right};
+use crate::walks::{self, period};
 
 /// "reads at most 4096 bytes of standard input and ignores more"
 const MOST_INPUT: usize = 4096;
@@ -144,11 +144,23 @@ pub fn margin(bytes: &[u8], i: u64, j: u64, n: u64, q: u64) -> Result<i64, Refus
     Ok(n as i64 * q as i64 - (end_of_i - start_of_j))
 }
 
-/// "for "is q right", q is place 0"
-pub fn is_right(bytes: &[u8], q: u64) -> Result<bool, Refusal> {
+/// A table, and a period from 1 to p that is asked for: the table's refusals, then ASK
+/// with the period at place 0, for both questions (document 02, No. 10: "each has the
+/// old question's, in the same order").
+fn judge_period_question(bytes: &[u8], q: u64) -> Result<Table, Refusal> {
     let table = judge(bytes)?;
     demand(1 <= q && q <= table.len, ASK, 0)?;
-    Ok(right(&table, q))
+    Ok(table)
+}
+
+/// "whether a period fits the boards"
+pub fn boards_fit(bytes: &[u8], q: u64) -> Result<bool, Refusal> {
+    judge_period_question(bytes, q).map(|table| walks::boards_fit(&table, q))
+}
+
+/// "whether values arrive"
+pub fn values_arrive(bytes: &[u8], q: u64) -> Result<bool, Refusal> {
+    judge_period_question(bytes, q).map(|table| walks::values_arrive(&table, q))
 }
 
 /// "one line `refused n a b`"

@@ -7,13 +7,18 @@ use crate::library::Said;
 
 /// The functions that are compared, each with the numbers that have to be met: 0
 /// for success, and each refusal that the function can give. What `fold` writes of
-/// a refused table is counted by itself.
-const FUNCTIONS: [(&str, &[usize]); 10] = [
+/// a refused table is counted by itself, and so are the yes and the no of a question.
+const FUNCTIONS: [(&str, &[usize]); 15] = [
     ("judge", &[0, 1, 2, 3, 4, 5, 6, 7]),
     ("judge_numbers", &[0, 1, 2, 3, 4, 5, 6, 7]),
     ("write", &[0, 1, 2, 3, 4, 5, 6, 7, 8]),
     ("period", &[0, 1, 2, 3, 4, 5, 6, 7]),
-    ("is_right", &[0, 1, 2, 3, 4, 5, 6, 7, 9]),
+    ("boards_fit", &[1, 2, 3, 4, 5, 6, 7, 9]),
+    ("boards_fit, yes", &[0]),
+    ("boards_fit, no", &[0]),
+    ("values_arrive", &[1, 2, 3, 4, 5, 6, 7, 9]),
+    ("values_arrive, yes", &[0]),
+    ("values_arrive, no", &[0]),
     ("plan", &[0, 1, 2, 3, 4, 5, 6, 7, 8]),
     ("unfold", &[0, 1, 2, 3, 4, 5, 8]),
     ("margin", &[0, 1, 2, 3, 4, 5, 6, 7, 9]),
@@ -110,11 +115,11 @@ impl Findings {
 
     /// The table of what was met.
     pub fn print(&self) {
-        print!("{:<14}", "");
+        print!("{:<18}", "");
         NAMES.iter().for_each(|name| print!("{:>8}", name));
         println!();
         for (place, (name, _)) in FUNCTIONS.iter().enumerate() {
-            print!("{:<14}", name);
+            print!("{:<18}", name);
             self.met[place]
                 .iter()
                 .for_each(|count| print!("{:>8}", count));

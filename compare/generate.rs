@@ -1022,7 +1022,7 @@ pub fn margin_question(seed: &mut Seed, ops: u64, p: u64) -> (u64, u64, u64, u64
     (i, j, n, q)
 }
 
-/// A question for "is q right".
+/// A period that the boards or the values are asked about.
 pub fn period_question(seed: &mut Seed, p: u64) -> u64 {
     asked(seed, 1, p)
 }

@@ -5,7 +5,7 @@ use crate::judge::{bytes_of, has, Op, Table};
 use crate::kinds::{Shown, KINDS};
 use crate::library::{self, Said};
 use crate::runs::{enough_cycles, smallest, Run, Wrong};
-use crate::walks;
+use crate::{simple, walks};
 
 /// How many differences are printed; the others are only counted.
 const MOST_PRINTED: u64 = 5;
@@ -15,10 +15,18 @@ const LONG: usize = 24;
 
 // ---- what was found -----------------------------------------------------
 
+/// What the boards and the values of a table say at a period, by both words: the place of
+/// "boards yes" is 2 and that of "values yes" is 1.
+const WORDS: [&str; 4] = [
+    "neither the boards fit nor the values arrive",
+    "the values arrive and the boards do not fit",
+    "the boards fit and the values do not arrive",
+    "the boards fit and the values arrive",
+];
+
 #[derive(Default)]
 struct Found {
-    periods: u64,
-    rights: u64,
+    words: [u64; WORDS.len()],
     kinds: [u64; KINDS.len()],
     differences: u64,
 }
@@ -37,22 +45,42 @@ impl Found {
         }
     }
 
-    /// A line for each kind, and one more for each that was not met.
+    /// Each period of a table, by what its boards and its values say there.
+    fn note_words(&mut self, table: &Table, wrong: &Wrong) {
+        for q in 1..=table.len {
+            let (boards, values) = (!has(wrong.boards, q), !has(wrong.values, q));
+            self.words[2 * usize::from(boards) + usize::from(values)] += 1;
+        }
+    }
+
+    /// A line for each kind of table and of period, and one more for each that was not met.
     fn print_kinds(&self) {
         let kinds = || self.kinds.iter().zip(KINDS);
         kinds().for_each(|(count, (name, _))| println!("{:>8} of kind {}", count, name));
+        let words = || self.words.iter().zip(WORDS);
+        words().for_each(|(count, name)| println!("{:>8} periods at which {}", count, name));
         let missed = kinds().filter(|(count, _)| **count == 0);
         missed.for_each(|(_, (name, _))| println!("no table of kind {}", name));
+        let missed = words().filter(|(count, _)| **count == 0);
+        missed.for_each(|(_, name)| println!("no period at which {}", name));
+    }
+
+    /// No answer differs, and every kind of table and of period was met.
+    fn is_good(&self) -> bool {
+        let mut counts = self.kinds.iter().chain(&self.words);
+        self.differences == 0 && counts.all(|count| *count > 0)
     }
 }
 
 // ---- one table ----------------------------------------------------------
 
-/// A table that is asked about, and the periods that runs show to be wrong for it.
+/// A table that is asked about, and the periods that runs show to be wrong for it: those at
+/// which its boards do not fit, and those at which its values do not arrive.
 struct Question {
     name: &'static str,
     table: Table,
-    wrong: u64,
+    boards: u64,
+    values: u64,
 }
 
 /// The table with its operations changed.
@@ -66,15 +94,21 @@ fn changed(table: &Table, change: fn(usize, &mut Op)) -> Table {
 /// The table; by the highest names; without cells, so that only boards decide; with a
 /// board for each operation, so that values decide, and each operation by itself.
 fn questions(table: &Table, wrong: &Wrong) -> [Question; 4] {
-    let question = |name, table, wrong| Question { name, table, wrong };
-    let boards = changed(table, |_, op| (op.reads, op.writes) = (0, 0));
-    let mut values = changed(table, |i, op| op.boards = 1 << i);
-    values.boards = table.ops.len() as u64;
+    let question = |name, table, boards, values| Question {
+        name,
+        table,
+        boards,
+        values,
+    };
+    let renamed = generate::relabelled(table);
+    let no_cells = changed(table, |_, op| (op.reads, op.writes) = (0, 0));
+    let mut own_boards = changed(table, |i, op| op.boards = 1 << i);
+    own_boards.boards = table.ops.len() as u64;
     [
-        question("the table", table.clone(), wrong.all()),
-        question("other names", generate::relabelled(table), wrong.all()),
-        question("boards", boards, wrong.boards),
-        question("values", values, wrong.values | wrong.own_boards),
+        question("the table", table.clone(), wrong.boards, wrong.values),
+        question("other names", renamed, wrong.boards, wrong.values),
+        question("no cells", no_cells, wrong.boards, 0),
+        question("own boards", own_boards, wrong.own_boards, wrong.values),
     ]
 }
 
@@ -83,18 +117,63 @@ fn told(a: u64) -> Said {
     Said { number: 0, a, b: 0 }
 }
 
-/// Every q from 1 to p, and the period: by runs, by the library and by walks.
-fn compare_question(question: &Question, found: &mut Found) {
-    let Question { name, table, wrong } = question;
-    let mut bytes = bytes_of(table);
-    let mut check = |good, who: &str, q| found.check(good, &format!("{}, {}", name, who), q, table);
-    for q in 1..=table.len {
-        let right = !has(*wrong, q);
-        let answer = library::is_right(&mut bytes, q);
-        check(answer == told(u64::from(right)), "library", q);
-        check(walks::right(table, q) == right, "walks", q);
+/// Whether the boards fit at a period, or whether the values arrive: by the library, by
+/// walks, and by one run.
+struct Asked {
+    name: &'static str,
+    library: fn(&mut [u8], u64) -> Said,
+    walks: fn(&Table, u64) -> bool,
+    run: fn(&Run<'_>, u64) -> bool,
+}
+
+const BOARDS: Asked = Asked {
+    name: "boards",
+    library: library::boards_fit,
+    walks: walks::boards_fit,
+    run: |run, q| run.boards_fit(q),
+};
+
+const VALUES: Asked = Asked {
+    name: "values",
+    library: library::values_arrive,
+    walks: walks::values_arrive,
+    run: |run, q| run.values_arrive(q),
+};
+
+/// Both questions at a period: the library and the walks say what runs show. True where the
+/// library says yes twice; "A period is right exactly when both say yes", and the simple
+/// planner, which knows of neither question, says which are right.
+fn compare_at(question: &Question, bytes: &mut [u8], q: u64, found: &mut Found) -> bool {
+    let table = &question.table;
+    let mut check = |good, what: &str, who: &str| {
+        let what = format!("{}, {}, {}", question.name, what, who);
+        found.check(good, &what, q, table)
+    };
+    let mut both = true;
+    for (asked, wrong) in [(BOARDS, question.boards), (VALUES, question.values)] {
+        let yes = !has(wrong, q);
+        let answer = (asked.library)(bytes, q);
+        check(answer == told(u64::from(yes)), asked.name, "library");
+        check((asked.walks)(table, q) == yes, asked.name, "walks");
+        both &= answer == told(1);
     }
-    let period = smallest(*wrong);
+    check(simple::is_good(table, q) == both, "both", "library");
+    both
+}
+
+/// Every q from 1 to p, and the period, which is the smallest with two yeses: by runs, by the
+/// library and by walks.
+fn compare_question(question: &Question, found: &mut Found) {
+    let table = &question.table;
+    let mut bytes = bytes_of(table);
+    let all = 1..=table.len;
+    let right: Vec<u64> = all
+        .filter(|q| compare_at(question, &mut bytes, *q, found))
+        .collect();
+    let mut check =
+        |good, who: &str, q| found.check(good, &format!("{}, {}", question.name, who), q, table);
+    let period = smallest(question.boards | question.values);
+    check(right.first() == Some(&period), "smallest of yeses", period);
     check(
         library::period(&mut bytes) == told(period),
         "library's period",
@@ -114,9 +193,7 @@ fn compare_table(table: &Table, longer: bool, found: &mut Found) {
     };
     let shown = Shown::by_runs(table, lengths);
     found.note_kinds(&shown);
-    let rights = (1..=table.len).filter(|q| !has(shown.wrong.all(), *q));
-    found.rights += rights.count() as u64;
-    found.periods += table.len;
+    found.note_words(table, &shown.wrong);
     for question in &questions(table, &shown.wrong) {
         compare_question(question, found);
     }
@@ -124,16 +201,27 @@ fn compare_table(table: &Table, longer: bool, found: &mut Found) {
 
 // ---- long runs ----------------------------------------------------------
 
-/// A long drawn run of a larger table is right at the library's period, which is that
-/// by walks.
+/// The library's period of a larger table is that by walks. At it and at a drawn period, both
+/// questions are answered as walks answer them, and a long drawn run says yes where the library
+/// does.
 fn compare_long_run(seed: &mut Seed, found: &mut Found) {
     let table = generate::small(seed);
+    let mut bytes = bytes_of(&table);
     let period = walks::period(&table);
-    let answer = library::period(&mut bytes_of(&table));
+    let answer = library::period(&mut bytes);
     found.check(answer == told(period), "library's period", period, &table);
     let modes = drawn_run(seed, &table);
-    let right = Run::new(&table, &modes).is_right(period);
-    found.check(right, &format!("run {:?}", modes), period, &table);
+    let run = Run::new(&table, &modes);
+    for q in [period, seed.between(1, table.len)] {
+        for asked in [BOARDS, VALUES] {
+            let yes = (asked.walks)(&table, q);
+            let answer = (asked.library)(&mut bytes, q);
+            let what = format!("larger table, {}, library", asked.name);
+            found.check(answer == told(u64::from(yes)), &what, q, &table);
+            let what = format!("{}, run {:?}", asked.name, modes);
+            found.check(answer != told(1) || (asked.run)(&run, q), &what, q, &table);
+        }
+    }
 }
 
 fn drawn_run(seed: &mut Seed, table: &Table) -> Vec<u64> {
@@ -153,7 +241,8 @@ fn drawn_member(seed: &mut Seed, set: u64) -> u64 {
 
 // ---- all ----------------------------------------------------------------
 
-/// So many drawn tables. True where no answer differs and every kind was met.
+/// So many drawn tables. True where no answer differs and every kind of table and of period
+/// was met.
 pub fn laid_command(count: u64, mut seed: Seed) -> bool {
     let mut found = Found::default();
     for turn in 0..count {
@@ -163,8 +252,10 @@ pub fn laid_command(count: u64, mut seed: Seed) -> bool {
     }
     found.print_kinds();
     println!(
-        "{} tables with all their runs, {} periods, {} right; {} answers differ",
-        count, found.periods, found.rights, found.differences
+        "{} tables with all their runs, both questions at {} periods; {} answers differ",
+        count,
+        found.words.iter().sum::<u64>(),
+        found.differences
     );
-    found.differences == 0 && found.kinds.iter().all(|count| *count > 0)
+    found.is_good()
 }

@@ -21,7 +21,9 @@ mod c {
 
         pub fn trevozhil_period(s: *const u8, s_len: usize, a: *mut u64, b: *mut u64) -> u32;
 
-        pub fn trevozhil_is_right(s: *const u8, s_len: usize, q: u64, a: *mut u64, b: *mut u64) -> u32;
+        pub fn trevozhil_boards_fit(s: *const u8, s_len: usize, q: u64, a: *mut u64, b: *mut u64) -> u32;
+
+        pub fn trevozhil_values_arrive(s: *const u8, s_len: usize, q: u64, a: *mut u64, b: *mut u64) -> u32;
 
         pub fn trevozhil_plan(
             s: *const u8, s_len: usize, out: *mut u8, out_len: usize, a: *mut u64, b: *mut u64,
@@ -96,9 +98,14 @@ pub fn period(bytes: &mut [u8]) -> Said {
     said(|a, b| unsafe { c::trevozhil_period(s, s_len, a, b) })
 }
 
-pub fn is_right(bytes: &mut [u8], q: u64) -> Said {
+pub fn boards_fit(bytes: &mut [u8], q: u64) -> Said {
     let (s, s_len) = (bytes.as_mut_ptr(), bytes.len());
-    said(|a, b| unsafe { c::trevozhil_is_right(s, s_len, q, a, b) })
+    said(|a, b| unsafe { c::trevozhil_boards_fit(s, s_len, q, a, b) })
+}
+
+pub fn values_arrive(bytes: &mut [u8], q: u64) -> Said {
+    let (s, s_len) = (bytes.as_mut_ptr(), bytes.len());
+    said(|a, b| unsafe { c::trevozhil_values_arrive(s, s_len, q, a, b) })
 }
 
 /// The margin goes to the middle one of three places.

@@ -160,9 +160,14 @@ impl<'a> Run<'a> {
         })
     }
 
-    /// Both demands of "right".
-    pub fn is_right(&self, q: u64) -> bool {
-        self.has_right_boards(q, any) && self.has_right_values(q, any)
+    /// Of this run, with every pair: the boards fit.
+    pub fn boards_fit(&self, q: u64) -> bool {
+        self.has_right_boards(q, any)
+    }
+
+    /// Of this run, with every source: the values arrive.
+    pub fn values_arrive(&self, q: u64) -> bool {
+        self.has_right_values(q, any)
     }
 }
 
@@ -253,10 +258,10 @@ impl Wrong {
     pub fn note(&mut self, run: &Run<'_>) {
         for q in 1..=run.table.len {
             let note = |set: &mut u64, right: bool| *set |= u64::from(!right) << q;
-            note(&mut self.boards, run.has_right_boards(q, any));
+            note(&mut self.boards, run.boards_fit(q));
             note(&mut self.own_boards, run.has_right_boards(q, same_op));
             note(&mut self.near_boards, run.has_right_boards(q, near));
-            note(&mut self.values, run.has_right_values(q, any));
+            note(&mut self.values, run.values_arrive(q));
             note(&mut self.near_values, run.has_right_values(q, near));
         }
     }

@@ -1,7 +1,7 @@
 //! Byte examples, the story of the turn that nobody typed, and a few checks on drawn inputs.
 //! What the tables of `examples/` fold to stands in their comments and is checked there.
 
-use crate::answers::{is_right, margin, plan, start_bytes, text, unfold};
+use crate::answers::{boards_fit, margin, plan, start_bytes, text, unfold, values_arrive};
 use crate::answers::{LONGEST_REPLY, LONGEST_STARTS, LONGEST_TABLE, LONGEST_TEXT};
 use crate::examples::K1;
 use crate::generate::{self, Seed};
@@ -33,7 +33,8 @@ impl Tally {
         self.check(name, judge(bytes).map(|_| ()) == expected);
         self.check(name, plan(bytes, &mut [0; 300]).map(|_| ()) == expected);
         self.check(name, margin(bytes, 99, 99, 0, 0).map(|_| ()) == expected);
-        self.check(name, is_right(bytes, 0).map(|_| ()) == expected);
+        self.check(name, boards_fit(bytes, 0).map(|_| ()) == expected);
+        self.check(name, values_arrive(bytes, 0).map(|_| ()) == expected);
         let line = format!("refused {} {} {}\n", figures.0, figures.1, figures.2);
         self.check(name, text(bytes) == line);
     }
@@ -100,12 +101,37 @@ fn bench_k1(tally: &mut Tally) {
     tally.check("K1 into 12", plan(&k1(), &mut [7; 12]) == Ok(12));
 }
 
-/// "Period 2, though 3 is not right."
-fn bench_k4(tally: &mut Tally) {
-    let k4 = from_hex(include_str!("../examples/k04.hex"));
-    for (q, is) in [(1, false), (2, true), (3, false), (4, true)] {
-        tally.check("K4", is_right(&k4, q) == Ok(is));
+/// What a table's boards and its values say, for each period from 1 up to its length.
+fn check_answers(tally: &mut Tally, name: &str, bytes: &[u8], boards: &[bool], values: &[bool]) {
+    for (q, (fit, arrive)) in (1..).zip(boards.iter().zip(values)) {
+        tally.check(name, boards_fit(bytes, q) == Ok(*fit));
+        tally.check(name, values_arrive(bytes, q) == Ok(*arrive));
     }
+    let beyond = boards.len() as u64 + 1;
+    let expected = Err(refusal_of((9, 0, 0)));
+    for q in [0, beyond, u64::MAX] {
+        tally.check(name, boards_fit(bytes, q) == expected);
+        tally.check(name, values_arrive(bytes, q) == expected);
+    }
+}
+
+/// K1: "period 3", of one board and no cells. K3: "Period 4", which its values ask for, and
+/// its boards for 2. K4: "Period 2, though 3 is not right", by its boards. K7: "Period 3", by
+/// its values. K8: "Period 3", by its boards, since its reader takes what its own cycle wrote.
+fn bench_answers(tally: &mut Tally) {
+    let (yes, no) = (true, false);
+    let k3 = from_hex(include_str!("../examples/k03.hex"));
+    let k4 = from_hex(include_str!("../examples/k04.hex"));
+    let k7 = from_hex(include_str!("../examples/k07.hex"));
+    let k8 = from_hex(include_str!("../examples/k08.hex"));
+    let from_2 = [no, yes, yes, yes, yes, yes];
+    let from_3 = [no, no, yes, yes, yes, yes];
+    let from_4 = [no, no, no, yes, yes, yes];
+    check_answers(tally, "K1", &k1(), &from_3[..5], &[yes; 5]);
+    check_answers(tally, "K3", &k3, &from_2, &from_4);
+    check_answers(tally, "K4", &k4, &[no, yes, no, yes], &[yes; 4]);
+    check_answers(tally, "K7", &k7, &[yes; 6], &from_3);
+    check_answers(tally, "K8", &k8, &from_3, &[yes; 6]);
 }
 
 /// The margins that are farthest from 0.
@@ -170,25 +196,34 @@ fn typed_runs() -> Vec<Vec<u64>> {
 
 /// At the period of the table with the typed turns, the typed runs pass also on the table
 /// with every turn. On a turn from cold to warm compensation takes an earlier cycle's
-/// temperature there, and from the period of the second table up that of the cycle before.
+/// temperature there, and from the period of the second table up that of the cycle before;
+/// both readings want the thermometer there, and the boards fit from 80 on.
 fn untyped_turn(tally: &mut Tally) {
     let typed = from_hex(include_str!("../examples/analyzer-typed-turns.hex"));
     let every = from_hex(include_str!("../examples/analyzer-cold-to-warm.hex"));
     let table = judge(&every).expect("the example is accepted");
-    let run_is_right = |modes: &[u64], q| Run::new(&table, modes).is_right(q);
-    let passes = |q| typed_runs().iter().all(|modes| run_is_right(modes, q));
-    tally.check(
-        "typed runs at 70",
-        passes(70) && is_right(&typed, 70) == Ok(true),
-    );
-    tally.check(
-        "typed runs at 69",
-        !passes(69) && is_right(&typed, 69) == Ok(false),
-    );
+    let fits = |modes: &[u64], q| Run::new(&table, modes).boards_fit(q);
+    let arrives = |modes: &[u64], q| Run::new(&table, modes).values_arrive(q);
+    for (q, boards) in [(70, true), (69, false)] {
+        let all_fit = typed_runs().iter().all(|modes| fits(modes, q));
+        let all_arrive = typed_runs().iter().all(|modes| arrives(modes, q));
+        tally.check("typed runs", all_fit == boards && all_arrive);
+        tally.check("typed boards", boards_fit(&typed, q) == Ok(boards));
+        tally.check("typed values", values_arrive(&typed, q) == Ok(true));
+    }
     let turn = [COLD, COLD, WARM];
-    tally.check("turn at 70", !run_is_right(&turn, 70));
-    tally.check("turn at 99", !run_is_right(&turn, 99));
-    tally.check("turn at 100", run_is_right(&turn, 100));
+    for (q, boards, values) in [
+        (70, false, false),
+        (79, false, false),
+        (80, true, false),
+        (99, true, false),
+        (100, true, true),
+    ] {
+        let said = (fits(&turn, q), arrives(&turn, q));
+        tally.check("turn", said == (boards, values));
+        tally.check("turn's boards", boards_fit(&every, q) == Ok(boards));
+        tally.check("turn's values", values_arrive(&every, q) == Ok(values));
+    }
     let (compensate, read, temperature) = (2, 4, 1);
     for (q, cycle) in [(200, 1), (100, 1), (99, 0), (70, 0)] {
         let taken = taken_from(&table, &turn, (compensate, 2), temperature, q);
@@ -400,9 +435,6 @@ fn questions(tally: &mut Tally) {
         tally.check("ask", margin(&k1, i, j, n, q) == expected);
     }
     tally.check("ask good", margin(&k1, 0, 0, 1000, 5) == Ok(4997));
-    tally.check("ask 0", is_right(&k1, 0) == Err(refusal_of((9, 0, 0))));
-    tally.check("ask 6", is_right(&k1, 6) == Err(refusal_of((9, 0, 0))));
-    tally.check("ask 5", is_right(&k1, 5) == Ok(true));
 }
 
 // ---- checks on drawn inputs ---------------------------------------------
@@ -519,7 +551,7 @@ fn selftest() -> Tally {
     let fixed = [
         hexadecimal,
         bench_k1,
-        bench_k4,
+        bench_answers,
         margins,
         sizes,
         largest_example,

@@ -82,6 +82,11 @@ fn right(table: &Table, from: u64, q: u64) -> bool {
     true
 }
 
+/// Whether a period from 1 to p is right.
+pub fn is_good(table: &Table, q: u64) -> bool {
+    right(table, reached(table), q)
+}
+
 /// The smallest right period.
 pub fn period(table: &Table) -> u64 {
     let from = reached(table);

@@ -31,11 +31,12 @@ struct Stats {
     unfold: Counts,
     numbers: Counts,
     margin: Counts,
-    right: Counts,
+    boards: Counts,
+    values: Counts,
     whole: Counts,
 }
 
-/// One input for plan and for the two questions.
+/// One input for plan and for the three questions.
 fn stat_table(seed: &mut Seed, stats: &mut Stats) {
     let bytes = generate::table_bytes(seed);
     let ops = bytes.len().saturating_sub(22) / 21;
@@ -45,7 +46,8 @@ fn stat_table(seed: &mut Seed, stats: &mut Stats) {
     let (i, j, n, q) = generate::margin_question(seed, ops, p);
     stats.margin.note(&answers::margin(&bytes, i, j, n, q));
     let q = generate::period_question(seed, p);
-    stats.right.note(&answers::is_right(&bytes, q));
+    stats.boards.note(&answers::boards_fit(&bytes, q));
+    stats.values.note(&answers::values_arrive(&bytes, q));
 }
 
 /// One reply.
@@ -83,7 +85,8 @@ pub fn stats_command(count: u64, mut seed: Seed) -> bool {
     stats.unfold.print("unfold");
     stats.numbers.print("numbers");
     stats.margin.print("margin");
-    stats.right.print("is right");
+    stats.boards.print("boards");
+    stats.values.print("values");
     stats.whole.print("whole");
     true
 }

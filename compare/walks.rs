@@ -144,11 +144,21 @@ fn right_values(table: &Table, reached: u64, cell: u64, q: u64) -> bool {
     })
 }
 
-/// "A period q, from 1 to p, is *right*".
-pub fn right(table: &Table, q: u64) -> bool {
+/// "no two different running instances that share a board overlap", in every run.
+pub fn boards_fit(table: &Table, q: u64) -> bool {
+    members(table, reached_modes(table)).all(|mode| right_boards_from(table, mode, q))
+}
+
+/// "each reader's source, as the plain run has it, has ended at or before the reader's
+/// start", in every run.
+pub fn values_arrive(table: &Table, q: u64) -> bool {
     let reached = reached_modes(table);
-    let boards = members(table, reached).all(|mode| right_boards_from(table, mode, q));
-    boards && (0..table.cells).all(|cell| right_values(table, reached, cell, q))
+    (0..table.cells).all(|cell| right_values(table, reached, cell, q))
+}
+
+/// "A period q, from 1 to p, is *right* when, in every run," both hold.
+pub fn right(table: &Table, q: u64) -> bool {
+    boards_fit(table, q) && values_arrive(table, q)
 }
 
 /// "The period is the smallest right q. Since p is right, there always is one."
