@@ -8,6 +8,11 @@ use crate::walks::{self, period};
 /// "reads at most 4096 bytes of standard input and ignores more"
 const MOST_INPUT: usize = 4096;
 
+/// The bytes of standard input that the program reads.
+pub fn read_part(bytes: &[u8]) -> &[u8] {
+    &bytes[..bytes.len().min(MOST_INPUT)]
+}
+
 /// "The longest table has 818 bytes."
 pub const LONGEST_TABLE: usize = 818;
 
@@ -93,7 +98,7 @@ fn read_row(fields: &mut Fields, q: u64, before: usize) -> Result<u64, Refusal> 
 }
 
 /// "and there are 1 to 32 operations": all unfolded starts in order.
-fn read_starts(bytes: &[u8]) -> Result<Vec<u64>, Refusal> {
+pub fn read_starts(bytes: &[u8]) -> Result<Vec<u64>, Refusal> {
     let mut fields = Fields::new(bytes);
     let q = read_period(&mut fields)?;
     let mut starts = Vec::new();
@@ -188,5 +193,5 @@ pub fn text_of(folded: &Result<Reply, Refusal>) -> String {
 
 /// What `fold` prints for these bytes of standard input.
 pub fn text(bytes: &[u8]) -> String {
-    text_of(&fold(&bytes[..bytes.len().min(MOST_INPUT)]))
+    text_of(&fold(read_part(bytes)))
 }

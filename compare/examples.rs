@@ -43,6 +43,19 @@ pub fn text_command() -> bool {
     true
 }
 
+/// A table on standard input, its reply's bytes on standard output.
+pub fn plan_command() -> bool {
+    match answers::fold(&input()) {
+        Ok(reply) => std::io::stdout()
+            .write_all(&answers::reply_bytes(&reply))
+            .is_ok(),
+        Err(refusal) => {
+            eprint!("{}", answers::refusal_text(&refusal));
+            false
+        }
+    }
+}
+
 // ---- what the comments say ----------------------------------------------
 
 /// What the comments say that `fold` prints: the indented lines below "fold prints:".

@@ -7,6 +7,8 @@
 //!   speed --count N --seed S     the time of the library's period search on largest tables, and of a simple planner's
 //!   bytes                        commented hexadecimal text on standard input to bytes
 //!   text                         bytes on standard input to what the program fold prints for them
+//!   ask WORD..                   words, and bytes on standard input, to what fold prints for them
+//!   plan                         a table's bytes on standard input to its reply's bytes
 //!   examples FILE..              files of commented hexadecimal text: each folds as its comments say
 //!   bench FILE..                 files of bytes to what the program bench prints for them
 //!   bytewise PROGRAM ARGUMENT..  a program with the bytes on standard input, which it reads one at a time
@@ -28,8 +30,10 @@ mod simple;
 mod speed;
 mod stats;
 mod walks;
+mod words;
 
 use generate::Seed;
+use std::ffi::OsString;
 
 /// How many inputs are drawn for the library unless a count is given.
 const LIBRARY_COUNT: u64 = 200_000;
@@ -72,6 +76,7 @@ fn command(name: &str, args: &[String]) -> bool {
         ("selftest", 0) => selftest::selftest_command(),
         ("bytes", 0) => examples::bytes_command(),
         ("text", 0) => examples::text_command(),
+        ("plan", 0) => examples::plan_command(),
         ("examples", _) => examples::examples_command(args),
         ("bench", _) => examples::bench_command(args),
         ("bytewise", _) => bytewise::bytewise_command(args),
@@ -81,16 +86,28 @@ fn command(name: &str, args: &[String]) -> bool {
 
 fn usage() -> bool {
     println!("library | runs | stats | speed, each with --count N --seed S");
-    println!(
-        "selftest | bytes | text | examples FILE.. | bench FILE.. | bytewise PROGRAM ARGUMENT.."
-    );
+    println!("selftest | bytes | text | plan | ask WORD.. | examples FILE.. | bench FILE..");
+    println!("bytewise PROGRAM ARGUMENT..");
     false
 }
 
+/// A command with its arguments. The words that fold is asked with may be any bytes; all
+/// other arguments are text.
+fn commanded(name: OsString, args: Vec<OsString>) -> bool {
+    if name == "ask" {
+        return words::ask_command(args);
+    }
+    let args: Option<Vec<String>> = args.into_iter().map(|arg| arg.into_string().ok()).collect();
+    match (name.to_str(), args) {
+        (Some(name), Some(args)) => command(name, &args),
+        _ => usage(),
+    }
+}
+
 fn main() {
-    let args: Vec<String> = std::env::args().skip(1).collect();
-    let good = match args.split_first() {
-        Some((name, rest)) => command(name, rest),
+    let mut args = std::env::args_os().skip(1);
+    let good = match args.next() {
+        Some(name) => commanded(name, args.collect()),
         None => usage(),
     };
     std::process::exit(if good { 0 } else { 1 });

@@ -10,6 +10,7 @@ use crate::judge::{bytes_of, judge, judge_numbers, numbers_of, push_number, writ
 use crate::judge::{Numbers, Refusal};
 use crate::runs::{taken_from, Run};
 use crate::walks::right;
+use crate::words::{decimal, printed, LIST};
 
 /// How many checks passed and failed.
 struct Tally {
@@ -437,6 +438,87 @@ fn questions(tally: &mut Tally) {
     tally.check("ask good", margin(&k1, 0, 0, 1000, 5) == Ok(4997));
 }
 
+// ---- the program's words ------------------------------------------------
+
+/// One or more digits; beyond 64 bits the highest number, which is asked for in no range.
+fn decimals(tally: &mut Tally) {
+    let long = "0".repeat(5000);
+    for (word, number) in [
+        ("0", 0),
+        ("000", 0),
+        ("007", 7),
+        ("10", 10),
+        ("9876543210", 9_876_543_210),
+        ("18446744073709551614", u64::MAX - 1),
+        ("18446744073709551615", u64::MAX),
+        ("018446744073709551614", u64::MAX - 1),
+        ("18446744073709551616", u64::MAX),
+        ("18446744073709551617", u64::MAX),
+        ("18446744073709551620", u64::MAX),
+        ("20000000000000000000", u64::MAX),
+        ("99999999999999999999", u64::MAX),
+        ("184467440737095516150", u64::MAX),
+        ("100000000000000000000000000001", u64::MAX),
+        ("340282366920938463463374607431768211456", u64::MAX),
+        ("000000000000000000000000000003", 3),
+        (&long, 0),
+        (&format!("{}5", long), 5),
+        (&"9".repeat(5000), u64::MAX),
+    ] {
+        tally.check(word, decimal(word.as_bytes()) == Some(number));
+    }
+    for word in [
+        "", " ", "+1", "-1", "-0", " 1", "1 ", "1\n", "\t1", "0x10", "1a", "a", "1_0", "1.0",
+        "1,0", "/", ":", "1\0", "\u{663}", "\u{ff13}",
+    ] {
+        tally.check(word, decimal(word.as_bytes()) == None);
+    }
+    tally.check("no text", decimal(b"3\xff") == None);
+}
+
+/// What the program prints for words about a table.
+fn says(tally: &mut Tally, bytes: &[u8], line: &str, output: &str) {
+    let words = line.split(' ').map(|word| word.as_bytes().to_vec());
+    let all: Vec<Vec<u8>> = words.collect();
+    let expected = (String::from(output), String::new());
+    tally.check(line, printed(&all, bytes) == expected);
+}
+
+/// The answers of the bench tables, a number beyond 64 bits, refusals in their order, and the
+/// list where the words are no question.
+fn words(tally: &mut Tally) {
+    let k7 = from_hex(include_str!("../examples/k07.hex"));
+    says(tally, &k7, "boards 2", "yes\n");
+    says(tally, &k7, "values 2", "no\n");
+    says(tally, &k7, "margin 0 1 2 2", "margin -2\n");
+    says(tally, &k7, "margin 0 1 2 3", "margin 0\n");
+    says(tally, &k7, "margin 1 0 1000 6", "margin 6003\n");
+    says(
+        tally,
+        &k1(),
+        "boards 18446744073709551617",
+        "refused 9 0 0\n",
+    );
+    says(
+        tally,
+        &k1(),
+        "margin 0 0 0 18446744073709551617",
+        "refused 9 2 0\n",
+    );
+    says(tally, &[], "values 18446744073709551617", "refused 2 0 0\n");
+    says(tally, &k1_times(2), "margin 9 9 0 0", "refused 6 0 1\n");
+    let reply = from_hex("11 00 02 00 03 12 00 04 00 01 00 00 12 00 04 00 02 00 05");
+    says(tally, &reply, "unfold", "op 0 start 1\nop 1 start 17\n");
+    says(tally, &reply[..12], "unfold", "op 0 start 1\n");
+    says(tally, &reply[..11], "unfold", "refused 1 5 0\n");
+    says(tally, &k1(), "unfold", "refused 2 0 0\n");
+    let (fold, list) = ((text(&k1()), String::new()), (String::new(), LIST.into()));
+    tally.check("no words", printed(&[], &k1()) == fold);
+    tally.check("an empty word", printed(&[vec![]], &k1()) == list);
+    let lines: Vec<&str> = LIST.split_inclusive('\n').collect();
+    tally.check("list", lines.len() == 6 && LIST.ends_with('\n'));
+}
+
 // ---- checks on drawn inputs ---------------------------------------------
 
 /// K1 cut at every length: SHORT inside a field, ORDER between fields.
@@ -563,6 +645,8 @@ fn selftest() -> Tally {
         points_of_numbers,
         points_of_large_numbers,
         questions,
+        decimals,
+        words,
         cuts,
     ];
     for part in fixed {
