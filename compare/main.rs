@@ -12,9 +12,11 @@
 //!   examples FILE..              files of commented hexadecimal text: each folds as its comments say
 //!   bench FILE..                 files of bytes to what the program bench prints for them
 //!   bytewise PROGRAM ARGUMENT..  a program with the bytes on standard input, which it reads one at a time
+//!   words FILE.. -- PROGRAM ..   the program fold with words, about the tables in the files and others
 
 mod against;
 mod answers;
+mod asking;
 mod bytewise;
 mod examples;
 mod findings;
@@ -80,6 +82,7 @@ fn command(name: &str, args: &[String]) -> bool {
         ("examples", _) => examples::examples_command(args),
         ("bench", _) => examples::bench_command(args),
         ("bytewise", _) => bytewise::bytewise_command(args),
+        ("words", _) => asking::words_command(args),
         _ => drawn(name, args),
     }
 }
@@ -87,7 +90,7 @@ fn command(name: &str, args: &[String]) -> bool {
 fn usage() -> bool {
     println!("library | runs | stats | speed, each with --count N --seed S");
     println!("selftest | bytes | text | plan | ask WORD.. | examples FILE.. | bench FILE..");
-    println!("bytewise PROGRAM ARGUMENT..");
+    println!("bytewise PROGRAM ARGUMENT.. | words FILE.. -- PROGRAM ARGUMENT..");
     false
 }
 

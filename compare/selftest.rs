@@ -3,6 +3,7 @@
 
 use crate::answers::{boards_fit, margin, plan, start_bytes, text, unfold, values_arrive};
 use crate::answers::{LONGEST_REPLY, LONGEST_STARTS, LONGEST_TABLE, LONGEST_TEXT};
+use crate::asking::lines_are_as_said;
 use crate::examples::K1;
 use crate::generate::{self, Seed};
 use crate::hex::bytes_in;
@@ -515,6 +516,7 @@ fn words(tally: &mut Tally) {
     let (fold, list) = ((text(&k1()), String::new()), (String::new(), LIST.into()));
     tally.check("no words", printed(&[], &k1()) == fold);
     tally.check("an empty word", printed(&[vec![]], &k1()) == list);
+    tally.check("lines", lines_are_as_said());
     let lines: Vec<&str> = LIST.split_inclusive('\n').collect();
     tally.check("list", lines.len() == 6 && LIST.ends_with('\n'));
 }
