@@ -19,16 +19,16 @@ ask-five-requires c κs = search needs
 
 returns : tie.Need-returns
 unfolding asks
-returns c = asks-first _ _ 0 (c .match .keys1) (omega arith) refl
+returns c = asks-first _ _ _ (c .match .keys1) (omega arith) refl
 
 returns-2 : tie.Need-returns-2
-returns-2 c = asks-first _ _ 1 (c .before .match .keys2) (omega arith) (c .ask-one .ensures)
+returns-2 c = asks-first _ _ _ (c .before .match .keys2) (omega arith) (c .ask-one .ensures)
 
 returns-3 : tie.Need-returns-3
-returns-3 c = asks-first _ _ 2 (c .before .match .keys3) (omega arith) (c .ask-two .ensures)
+returns-3 c = asks-first _ _ _ (c .before .match .keys3) (omega arith) (c .ask-two .ensures)
 
 returns-4 : tie.Need-returns-4
-returns-4 c = asks-first _ _ 5 (c .before .match .keys4) (omega arith) (c .ask-five .ensures)
+returns-4 c = asks-first _ _ _ (c .before .match .keys4) (omega arith) (c .ask-five .ensures)
 
 returns-5 : tie.Need-returns-5
 returns-5 c =
