@@ -11,7 +11,7 @@ pub const LIST: &str = "\
 fold: the period and the rows of the table on standard input
 fold boards Q: do the boards fit at period Q
 fold values Q: do the values arrive at period Q
-fold margin I J N Q: ticks from the end of step I to step J, N cycles on
+fold margin I J N Q: ticks left from the end of step I to the start of step J, N cycles later, at period Q
 fold unfold: the starts of the reply on standard input
 I, J, N, Q are decimal numbers
 ";
