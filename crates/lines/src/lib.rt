@@ -38,7 +38,7 @@ pub fn put_bytes(out: &mut [u8], at: usize, w: &[u8]) -> usize
 }
 
 // A word and a number behind it.
-fn put_part(out: &mut [u8], at: usize, w: &[u8], n: u64) -> usize
+pub fn put_part(out: &mut [u8], at: usize, w: &[u8], n: u64) -> usize
     requires { ⌜ at + length (now w ++ decimal n) ≤ length (now out) ⌝ }
     ensures { λ r. ⌜ Puts (now (out .entry)) (now (out .exit)) at r (now (w .entry) ++ decimal n) ⌝ }
 {

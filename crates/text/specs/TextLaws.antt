@@ -9,11 +9,13 @@ use lib.Seq.{length-take-le}
 use Rattle.rules.specs.Table.{Table, nops}
 use Rattle.rules.specs.Rows.{Reply, replyOf}
 use Rattle.rules.specs.Verdicts.{Verdict, accepted, refused, ROOM}
-use Rattle.rules.specs.Text.{rowLine, rowLines, periodLine, refusedLine, replyText, textOf, longestText}
+use Rattle.rules.specs.Text.{rowLine, rowLines, periodLine, refusedLine, replyText, told, textOf, longestText}
 use Rattle.rules.specs.Answers.{put}
 use Rattle.theory.proofs.Text.{rows-none, rows-snoc, reply-text}
 use Rattle.theory.proofs.Answering.{put-room, put-short}
-use Rattle.fields.specs.Verdicts.{leaving}
+use Rattle.fields.specs.declared.Refusal.{Refusal}
+use Rattle.fields.specs.Verdicts.{refusalOf, leaving}
+use Rattle.fields.specs.RefusalLaws.{refusal-is}
 use Rattle.table.specs.Tables.{padded}
 use Rattle.table.specs.TableLaws.{take-padded}
 use Rattle.puts.specs.PutLaws.{stored-front}
@@ -50,6 +52,16 @@ module _ (T : Table) (q : ℕ) where
 pub refusal-text : (v : Verdict Reply) {n a b : ℕ} → v ≡ refused n a b → textOf v ≡ refusedLine n a b
 unfolding textOf
 refusal-text v e = ap textOf e
+
+-- what is told of a verdict: the text of what is accepted, or the refusal's line, whatever was to be accepted
+module _ {A : Type 0} (f : A → List ℕ) {v : Verdict A} where
+  pub told-accepted : (x : A) → v ≡ accepted x → f x ≡ told f v
+  unfolding told
+  told-accepted x e = sym (ap (told f) e)
+
+  pub told-refusal : (r : Refusal) → v ≡ refusalOf r → textOf (refusalOf r) ≡ told f v
+  unfolding told textOf
+  told-refusal r e = let (n, a, b, x, y) = refusal-is {A = Reply} {B = A} r in ap textOf x ∙ sym (ap (told f) (e ∙ y))
 
 -- ---- a text by value
 
