@@ -6,6 +6,7 @@ use mathlib.Core.List.{List}
 use Rattle.rules.specs.Judge.{Numbers}
 use Rattle.rules.specs.Answers.{IsPlan, IsFold, IsUnfold, IsWrite, IsMargin, IsPeriodOf, BoardsFit, ValuesArrive}
 use Rattle.theory.proofs.Answering.{plan-unique, text-unique, fold-unique, unfold-unique, write-unique, margin-unique, period-of-unique, boards-unique, values-unique}
+use Rattle.theory.proofs.Saying.{said-unique}
 use Rattle.fields.specs.declared.Answer.{Answer}
 use Rattle.fields.specs.Verdicts.{answered, leaving}
 use Rattle.fields.proofs.Told.{leaving-one}
@@ -19,6 +20,9 @@ use Rattle.questions.proofs.Unique.{truth-one, found-one}
 use Rattle.text.specs.declared.Text.{Text}
 use Rattle.text.specs.Texts.{textIn}
 use Rattle.folds.specs.Folds.{TextFor}
+use Rattle.words.specs.declared.Question.{Question}
+use Rattle.words.specs.Words.{askedBy}
+use Rattle.saying.specs.Said.{SaidFor}
 
 -- ---- functions that write
 
@@ -53,3 +57,8 @@ values-one x y s q p r = truth-one x y (values-unique s q _ _ p r)
 
 pub period-one : (x y : Found) (s : List ℕ) → IsPeriodOf s (foundOf x) → IsPeriodOf s (foundOf y) → x ≡ y
 period-one x y s p q = found-one x y (period-of-unique s _ _ p q)
+
+-- ---- the text for a question
+
+pub say-one : (q : Question) (s : List ℕ) (x y : Text) → SaidFor q s x → SaidFor q s y → x ≡ y
+say-one q s x y (b, p, e) (c, r, f) = e ∙ ap textIn (said-unique (askedBy q) s b c p r) ∙ sym f

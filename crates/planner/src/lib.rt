@@ -5,11 +5,14 @@ ghost use Rattle.handed.specs.Handed.{numbers};
 ghost use Rattle.questions.specs.Questions.{truthOf, foundOf};
 ghost use Rattle.margins.specs.Margins.{measuredOf};
 ghost use Rattle.folds.specs.Folds.{TextFor};
+ghost use Rattle.words.specs.Words.{Asks};
+ghost use Rattle.saying.specs.Said.{SaidFor};
 use fields::Answer;
 use margins::Measured;
 use questions::Found;
 use questions::Truth;
 use text::Text;
+use words::Question;
 
 // A table's reply: its period and rows, from the front of the buffer. On a refusal every byte of it stays.
 pub fn plan(s: &[u8], out: &mut [u8]) -> Answer
@@ -32,6 +35,22 @@ pub fn fold(s: &[u8], out: &mut [u8]) -> Answer
     ensures { λ r. ⌜ IsFold (now (s .entry)) (now (out .entry)) (leaving (answered r) (now (out .exit))) ⌝ }
 {
     folds::fold(s, out)
+}
+
+// ---- the words behind the program's name, and what it prints for them
+
+// What words ask, by their number and the first five of them.
+pub fn question_of(count: usize, a: &[u8], b: &[u8], c: &[u8], d: &[u8], e: &[u8]) -> Question
+    ensures { λ r. ⌜ Asks count (now (a .entry)) (now (b .entry)) (now (c .entry)) (now (d .entry)) (now (e .entry)) r ⌝ }
+{
+    words::question_of(count, a, b, c, d, e)
+}
+
+// The text for a question about the bytes on standard input.
+pub fn say(q: Question, s: &[u8]) -> Text
+    ensures { λ r. ⌜ SaidFor q (now (s .entry)) r ⌝ }
+{
+    saying::say(q, s)
 }
 
 // ---- a reply back to starts, questions about a table, and a table from numbers

@@ -148,7 +148,6 @@ pub record Printed : Type 0 where
 
 -- words that ask nothing "get a short list of what can be asked on standard error and nothing on standard output"
 unfoldable pub printed : Question → List ℕ → Printed
-unfolding isAsked
 printed q text = cond (isAsked q) (record { out = text; err = [] }) (record { out = []; err = text })
 
 abbrev pub IsPrinted : List (List ℕ) → List ℕ → Printed → Type 0

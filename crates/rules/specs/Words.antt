@@ -110,7 +110,7 @@ unfolding asks wordOf
 questionOf ws = asks (map wordOf ws)
 
 -- whether they ask anything
-unfoldable pub isAsked : Question → Bool
+abbrev pub isAsked : Question → Bool
 isAsked foldAsked = true
 isAsked (boardsAsked q) = true
 isAsked (valuesAsked q) = true

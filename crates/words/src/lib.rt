@@ -3,7 +3,7 @@ ghost use mathlib.Core.Path.{_≡_};
 ghost use mathlib.Core.Bool.{true};
 ghost use mathlib.Core.List.{[], _∷_};
 ghost use Prim.Native.Nat.{_+_, _-_, _*_};
-ghost use Rattle.rules.specs.Words.{isDigit, digitsOnly, isNumber, valueOf, sameBytes, asks};
+ghost use Rattle.rules.specs.Words.{isDigit, digitsOnly, isNumber, valueOf, sameBytes, asks, isAsked};
 ghost use Rattle.words.specs.Words.{capped, cappedWord, readAs, unnamedOf, wordIs, askedBy, Asks, AsksRead};
 
 // The largest number of 64 bits.
@@ -204,4 +204,18 @@ pub fn question_of(count: usize, a: &[u8], b: &[u8], c: &[u8], d: &[u8], e: &[u8
     let fourth = word_of(d);
     let fifth = word_of(e);
     ask(count, first, second, third, fourth, fifth)
+}
+
+// Whether anything is asked.
+pub fn is_asked(q: Question) -> bool
+    ensures { λ r. ⌜ r ≡ isAsked (askedBy q) ⌝ }
+{
+    match q {
+        Question::Fold => true,
+        Question::Boards(_) => true,
+        Question::Values(_) => true,
+        Question::Margin(_, _, _, _) => true,
+        Question::Unfold => true,
+        Question::Nothing => false,
+    }
 }

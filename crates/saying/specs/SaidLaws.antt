@@ -1,0 +1,48 @@
+-- What is said for a question of the code is said for the words that ask it, also where a number was beyond 64 bits.
+-- Assumes nothing.
+use Prim.Native.Nat.{ℕ, _<_, _≤_}
+use mathlib.Core.Path.{_≡_, refl, subst, subst⁻¹}
+use mathlib.Core.Bool.{Bool}
+use mathlib.Core.List.{List, [], _∷_}
+use mathlib.Core.Logic.{inl, inr}
+use native.Mathlib.Decide.{decLt}
+use native.Mathlib.Omega.{arith}
+use lib.ListN.{length, take}
+use Rattle.rules.specs.Words.{foldAsked, boardsAsked, valuesAsked, marginAsked, unfoldAsked, nothingAsked, questionOf}
+use Rattle.rules.specs.Words as rules
+use Rattle.rules.specs.Answers.{Fit, Arrive, IsSaid}
+use Rattle.theory.proofs.Beyond.{Alike, yes-no-alike, margin-asked-alike}
+use Rattle.text.specs.declared.Text.{Text}
+use Rattle.text.specs.TextLaws.{text-front}
+use Rattle.words.specs.declared.Question.{Question}
+use Rattle.words.specs.Words.{largest, capped, cappedQuestion, askedBy, Asks}
+use Rattle.saying.specs.Said.{SaidFor}
+
+-- a capped number is the number, or both are beyond every range
+alike : (n : ℕ) → Alike (capped n) n
+alike n = go (decLt largest n)
+  where
+    go : Dec (largest < n) → Alike (capped n) n
+    go (yes h) = inr (omega arith, omega arith)
+    go (no h) = inl (omega arith)
+
+-- what is said of capped numbers is said of the numbers
+said-capped : (q : rules.Question) (s text : List ℕ) → IsSaid (cappedQuestion q) s text → IsSaid q s text
+unfolding IsSaid cappedQuestion
+said-capped foldAsked s text x = x
+said-capped (boardsAsked q) s text (v, x, e) = (v, yes-no-alike s Fit (capped q) q v (alike q) x, e)
+said-capped (valuesAsked q) s text (v, x, e) = (v, yes-no-alike s Arrive (capped q) q v (alike q) x, e)
+said-capped (marginAsked i j n q) s text (v, x, e) =
+    (v, margin-asked-alike s (capped i) i (capped j) j (capped n) n (capped q) q v (alike i) (alike j) (alike n) (alike q) x, e)
+said-capped unfoldAsked s text x = x
+said-capped nothingAsked s text x = x
+
+-- the bytes that are counted are the text
+pub said-is : (q : Question) (s : List ℕ) (t : Text) → SaidFor q s t → IsSaid (askedBy q) s (take (t .len) (t .bytes))
+said-is q s t (b, is, e) = subst⁻¹ (λ (c : List ℕ). IsSaid (askedBy q) s c) (text-front b t e) is
+
+-- from the words to the text: what is said for the question that words ask is said for the words, whatever words stand behind the fifth
+pub words-said : (count : ℕ) (a b c d e : List ℕ) (q : Question) (s text : List ℕ) → Asks count a b c d e q → IsSaid (askedBy q) s text
+    → (ws : List (List ℕ)) → length ws ≡ count → take 5 ws ≡ take count (a ∷ b ∷ c ∷ d ∷ e ∷ []) → IsSaid (questionOf ws) s text
+words-said count a b c d e q s text asks said ws long first =
+    said-capped (questionOf ws) s text (subst (λ (x : rules.Question). IsSaid x s text) (asks ws long first) said)
