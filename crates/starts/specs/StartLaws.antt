@@ -85,7 +85,7 @@ module _ (s : List ℕ) where
     rows-there h = sym (reply-heard ∙ then-accepts rows (then-accepts (needed s 5) (sym len) ∙ needed-yes s 5 h))
 
   -- what is accepted is a reply
-  heard-reply : heard (judgeReply s) ≡ accepted tt → (R : Reply) × (judgeReply s ≡ accepted R)
+  pub heard-reply : heard (judgeReply s) ≡ accepted tt → (R : Reply) × (judgeReply s ≡ accepted R)
   unfolding heard
   heard-reply e = let (R, come, _) = onwards-first (judgeReply s) _ e in (R, come)
 
@@ -104,11 +104,11 @@ abbrev start-bytes : Ticks → List ℕ
 start-bytes t = be16 (t .number)
 
 module _ {s : List ℕ} {R : Reply} (is : ReplyIn s R) where
-  starts-count : length (startsOf R) ≡ length (R .rows)
+  pub starts-count : length (startsOf R) ≡ length (R .rows)
   unfolding startsOf
   starts-count = length-map (R .rows) _
 
-  starts-at : (i : ℕ) → i < length (R .rows) → getD (startsOf R) i (unfoldAt (R .period) (rowAt s 0)) ≡ unfoldAt (ticks (num16 s 3)) (rowAt s (5 + 7 * i))
+  pub starts-at : (i : ℕ) → i < length (R .rows) → getD (startsOf R) i (unfoldAt (R .period) (rowAt s 0)) ≡ unfoldAt (ticks (num16 s 3)) (rowAt s (5 + 7 * i))
   unfolding startsOf
   starts-at i h =
       List·getD-map (unfoldAt (R .period)) (R .rows) i (rowAt s 0)

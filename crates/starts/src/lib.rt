@@ -90,7 +90,7 @@ pub fn judge(s: &[u8]) -> Verdict
 // ---- the starts, written
 
 // The start that the row at a place came from.
-fn start_at(s: &[u8], at: usize) -> Ticks
+pub fn start_at(s: &[u8], at: usize) -> Ticks
     requires { ⌜ (5 ≤ length (now s)) × (at + 7 ≤ length (now s)) ⌝ }
     ensures { λ t. ⌜ ticksOf t ≡ unfoldAt (ticks (num16 (now (s .entry)) 3)) (rowAt (now (s .entry)) at) ⌝ }
 {
