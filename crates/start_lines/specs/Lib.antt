@@ -1,0 +1,2 @@
+pub mod StartLines
+pub mod StartLineLaws
