@@ -31,16 +31,23 @@ fn emit_list(q: Question, s: &[u8], text: &[u8])
     io::write_all(STDERR_FILENO, text);
 }
 
-// The text for a question about the bytes on standard input, on its stream.
+// Prints what is the text for a question, whole, on the stream where it belongs.
+fn emit(q: Question, s: &[u8], text: &[u8])
+    requires { ⌜ IsSaid (askedBy q) (now s) (now text) ⌝ }
+{
+    if words::is_asked(q) {
+        emit_said(q, s, text);
+    } else {
+        emit_list(q, s, text);
+    }
+}
+
+// The text for a question about the bytes on standard input.
 pub fn print_answer(q: Question, s: &[u8]) {
     let t = planner::say(q, s);
     let n = t.len;
     let bytes = t.bytes;
-    if words::is_asked(q) {
-        emit_said(q, s, &bytes[..n]);
-    } else {
-        emit_list(q, s, &bytes[..n]);
-    }
+    emit(q, s, &bytes[..n]);
 }
 
 // The text for a table's bytes.

@@ -54,11 +54,13 @@ unfolding decimal
 rowLine i r =
     opWord ++ decimal i ++ startWord ++ decimal (r .start .number) ++ fstWord ++ decimal (r .fst .number) ++ newline
 
--- the lines of rows, the first of which is that of operation i
-unfoldable pub rowLines : ℕ → List Row → List ℕ
-unfolding rowLine
-rowLines i [] = []
-rowLines i (r ∷ rs) = rowLine i r ++ rowLines (suc i) rs
+-- a line for each of a list, the first of which is number i
+unfoldable pub eachLine : {A : Type 0} → (ℕ → A → List ℕ) → ℕ → List A → List ℕ
+eachLine line i [] = []
+eachLine line i (x ∷ xs) = line i x ++ eachLine line (suc i) xs
+
+abbrev pub rowLines : ℕ → List Row → List ℕ
+rowLines i rs = eachLine rowLine i rs
 
 unfoldable pub periodLine : ℕ → List ℕ
 unfolding decimal
@@ -69,7 +71,7 @@ unfolding decimal
 refusedLine number a b = refusedWord ++ decimal number ++ space ++ decimal a ++ space ++ decimal b ++ newline
 
 unfoldable pub replyText : Reply → List ℕ
-unfolding periodLine rowLines
+unfolding periodLine eachLine rowLine
 replyText R = periodLine (R .period .number) ++ rowLines 0 (R .rows)
 
 -- the text of what is accepted, or the refusal's line
@@ -111,13 +113,10 @@ unfoldable pub startLine : ℕ → Ticks → List ℕ
 unfolding decimal
 startLine i t = opWord ++ decimal i ++ startWord ++ decimal (t .number) ++ newline
 
--- the lines of starts, the first of which is that of operation i
-unfoldable pub startLines : ℕ → List Ticks → List ℕ
-unfolding startLine
-startLines i [] = []
-startLines i (t ∷ ts) = startLine i t ++ startLines (suc i) ts
+abbrev pub startLines : ℕ → List Ticks → List ℕ
+startLines i ts = eachLine startLine i ts
 
 -- a reply's starts
 unfoldable pub startsText : Reply → List ℕ
-unfolding startLines startsOf
+unfolding eachLine startLine startsOf
 startsText R = startLines 0 (startsOf R)

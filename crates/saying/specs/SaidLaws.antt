@@ -2,19 +2,26 @@
 -- Assumes nothing.
 use Prim.Native.Nat.{ℕ, _<_, _≤_}
 use mathlib.Core.Path.{_≡_, refl, subst, subst⁻¹}
-use mathlib.Core.Bool.{Bool}
+use mathlib.Core.Bool.{Bool, true, false}
 use mathlib.Core.List.{List, [], _∷_}
 use mathlib.Core.Logic.{inl, inr}
 use native.Mathlib.Decide.{decLt}
 use native.Mathlib.Omega.{arith}
+use lib.IntN.{ℤ}
 use lib.ListN.{length, take}
-use Rattle.rules.specs.Words.{foldAsked, boardsAsked, valuesAsked, marginAsked, unfoldAsked, nothingAsked, questionOf}
+use Rattle.rules.specs.Words.{foldAsked, boardsAsked, valuesAsked, marginAsked, unfoldAsked, nothingAsked, questionOf, isAsked, askable}
 use Rattle.rules.specs.Words as rules
-use Rattle.rules.specs.Answers.{Fit, Arrive, IsSaid}
+use Rattle.rules.specs.Verdicts.{Verdict}
+use Rattle.rules.specs.Judge.{judgeReply}
+use Rattle.rules.specs.Text.{told, yesNoLine, marginLine, startsText}
+use Rattle.rules.specs.Answers.{Fit, BoardsFit, Arrive, ValuesArrive, IsMargin, IsSaid, printed}
 use Rattle.theory.proofs.Beyond.{Alike, yes-no-alike, margin-asked-alike}
 use Rattle.text.specs.declared.Text.{Text}
+use Rattle.text.specs.Texts.{textIn}
 use Rattle.text.specs.TextLaws.{text-front}
+use Rattle.folds.specs.Folds.{TextFor}
 use Rattle.words.specs.declared.Question.{Question}
+use Rattle.words.specs.declared.Question.the-variants as question
 use Rattle.words.specs.Words.{largest, capped, cappedQuestion, askedBy, Asks}
 use Rattle.saying.specs.Said.{SaidFor}
 
@@ -37,6 +44,32 @@ said-capped (marginAsked i j n q) s text (v, x, e) =
 said-capped unfoldAsked s text x = x
 said-capped nothingAsked s text x = x
 
+-- ---- the text for each question
+module _ {q : Question} (s : List ℕ) {t : Text} where
+  pub said-fold : q ≡ question.Fold → TextFor s t → SaidFor q s t
+  unfolding IsSaid
+  said-fold e x = subst⁻¹ (λ (r : Question). SaidFor r s t) e x
+
+  pub said-boards : {p : ℕ} (v : Verdict Bool) → q ≡ question.Boards p → BoardsFit s p v → t ≡ textIn (told yesNoLine v) → SaidFor q s t
+  unfolding IsSaid
+  said-boards v e x f = subst⁻¹ (λ (r : Question). SaidFor r s t) e (told yesNoLine v, (v, x, refl), f)
+
+  pub said-values : {p : ℕ} (v : Verdict Bool) → q ≡ question.Values p → ValuesArrive s p v → t ≡ textIn (told yesNoLine v) → SaidFor q s t
+  unfolding IsSaid
+  said-values v e x f = subst⁻¹ (λ (r : Question). SaidFor r s t) e (told yesNoLine v, (v, x, refl), f)
+
+  pub said-margin : {i j n p : ℕ} (v : Verdict ℤ) → q ≡ question.Margin i j n p → IsMargin s i j n p v → t ≡ textIn (told marginLine v) → SaidFor q s t
+  unfolding IsSaid
+  said-margin v e x f = subst⁻¹ (λ (r : Question). SaidFor r s t) e (told marginLine v, (v, x, refl), f)
+
+  pub said-unfold : q ≡ question.Unfold → t ≡ textIn (told startsText (judgeReply s)) → SaidFor q s t
+  unfolding IsSaid
+  said-unfold e f = subst⁻¹ (λ (r : Question). SaidFor r s t) e (told startsText (judgeReply s), refl, f)
+
+  pub said-nothing : q ≡ question.Nothing → t ≡ textIn askable → SaidFor q s t
+  unfolding IsSaid
+  said-nothing e f = subst⁻¹ (λ (r : Question). SaidFor r s t) e (askable, refl, f)
+
 -- the bytes that are counted are the text
 pub said-is : (q : Question) (s : List ℕ) (t : Text) → SaidFor q s t → IsSaid (askedBy q) s (take (t .len) (t .bytes))
 said-is q s t (b, is, e) = subst⁻¹ (λ (c : List ℕ). IsSaid (askedBy q) s c) (text-front b t e) is
@@ -46,3 +79,13 @@ pub words-said : (count : ℕ) (a b c d e : List ℕ) (q : Question) (s text : L
     → (ws : List (List ℕ)) → length ws ≡ count → take 5 ws ≡ take count (a ∷ b ∷ c ∷ d ∷ e ∷ []) → IsSaid (questionOf ws) s text
 words-said count a b c d e q s text asks said ws long first =
     said-capped (questionOf ws) s text (subst (λ (x : rules.Question). IsSaid x s text) (asks ws long first) said)
+
+-- ---- the stream of a text
+module _ (q : rules.Question) (text : List ℕ) where
+  pub asked-printed : isAsked q ≡ true → printed q text ≡ record { out = text; err = [] }
+  unfolding printed
+  asked-printed e = rw e
+
+  pub unasked-printed : isAsked q ≡ false → printed q text ≡ record { out = []; err = text }
+  unfolding printed
+  unasked-printed e = rw e

@@ -14,7 +14,7 @@ use Rattle.rules.specs.Judge.{rowOk, rowsFrom, judgeReply}
 use Rattle.rules.specs.Text.{decimal, opWord, startWord, newline, startLine, startLines, startsText, told, longestText}
 use Rattle.theory.proofs.Judging.{fields-passing}
 use Rattle.theory.proofs.Replies.{reply-row, reply-in}
-use Rattle.theory.proofs.Text.{decimal-length}
+use Rattle.theory.proofs.Text.{decimal-length, lines-none, lines-snoc}
 use Rattle.theory.proofs.Verdicts.{then-rest, onwards-first}
 use Rattle.starts.specs.Starts.{heard}
 use Rattle.starts.specs.StartLaws.{heard-reply, starts-count, starts-at}
@@ -47,30 +47,10 @@ start-put i t out at a b c =
 pub start-short : (i : ℕ) (t : Ticks) → i < 100 → t .number < 2 ^ 32 → length (startLine i t) ≤ 23
 start-short i t h g = omega (arith, start-length i t, decimal-length 1 i h, decimal-length 9 (t .number) (omega arith))
 
--- ---- lines one after the other
-
-lines-first : (i : ℕ) (t : Ticks) (ts : List Ticks) → startLines i (t ∷ ts) ≡ startLine i t ++ startLines (suc i) ts
-unfolding startLines
-lines-first i t ts = refl
-
-lines-of-none : (i : ℕ) → startLines i [] ≡ []
-unfolding startLines
-lines-of-none i = refl
-
--- one start more, that of operation n
-lines-snoc : (ts : List Ticks) (i n : ℕ) (t : Ticks) → n ≡ i + length ts → startLines i (ts ++ (t ∷ [])) ≡ startLines i ts ++ startLine n t
-lines-snoc [] i n t e =
-    let same : i ≡ n = omega arith in lines-first i t [] ∙ simp (lines-of-none, append-nil) (ap (λ (k : ℕ). startLine k t) same)
-lines-snoc (x ∷ ts) i n t e =
-    lines-first i x (ts ++ (t ∷ []))
-    ∙ ap (λ (l : List ℕ). startLine i x ++ l) (lines-snoc ts (suc i) n t (omega arith))
-    ∙ sym (append-assoc (startLine i x) (startLines (suc i) ts) (startLine n t))
-    ∙ ap (λ (l : List ℕ). l ++ startLine n t) (sym (lines-first i x ts))
-
 -- ---- the lines of the first n rows
 module _ (s out : List ℕ) where
-  pub lines-none : LinesPut s 0 out out 0
-  lines-none = record { short = omega arith; lines = λ R e. rw (lines-of-none 0) (copy-none out 0 [], omega arith) }
+  pub start-lines-none : LinesPut s 0 out out 0
+  start-lines-none = record { short = omega arith; lines = λ R e. rw (lines-none startLine 0) (copy-none out 0 [], omega arith) }
 
   pub lines-turn : (n i : ℕ) {mid end : List ℕ} {m k : ℕ} → 5 + 7 * n ≤ length s → n ≤ 32 → i < n → LinesPut s i out mid m
       → (t : Ticks) → t .number < 2 ^ 32 → t ≡ unfoldAt (ticks (num16 s 3)) (rowAt s (5 + 7 * i)) → Puts mid end m k (startLine i t) → LinesPut s (i + 1) out end k
@@ -84,7 +64,7 @@ module _ (s out : List ℕ) where
             let same : t ≡ _ = e ∙ sym (starts-at is i (omega (arith, is .size))) in
             let place : i ≡ 0 + length starts = omega (arith, length-take-le i (startsOf R) (omega arith)) in
             let more : startLines 0 (take (i + 1) (startsOf R)) ≡ startLines 0 starts ++ startLine i t =
-            ap (startLines 0) (rw (add-one, take-suc (startsOf R) i (unfoldAt (R .period) (rowAt s 0)) inside, ← same)) ∙ lines-snoc starts 0 i t place
+            ap (startLines 0) (rw (add-one, take-suc (startsOf R) i (unfoldAt (R .period) (rowAt s 0)) inside, ← same)) ∙ lines-snoc startLine starts 0 i t place
             in
             rw more (puts-then out 0 (startLines 0 starts) (startLine i t) (front .lines R read) line);
       }

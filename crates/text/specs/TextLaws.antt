@@ -11,7 +11,7 @@ use Rattle.rules.specs.Rows.{Reply, replyOf}
 use Rattle.rules.specs.Verdicts.{Verdict, accepted, refused, ROOM}
 use Rattle.rules.specs.Text.{rowLine, rowLines, periodLine, refusedLine, replyText, told, textOf, longestText}
 use Rattle.rules.specs.Answers.{put}
-use Rattle.theory.proofs.Text.{rows-none, rows-snoc, reply-text}
+use Rattle.theory.proofs.Text.{lines-none, lines-snoc, reply-text}
 use Rattle.theory.proofs.Answering.{put-room, put-short}
 use Rattle.fields.specs.declared.Refusal.{Refusal}
 use Rattle.fields.specs.Verdicts.{refusalOf, leaving}
@@ -34,11 +34,11 @@ module _ (T : Table) (q : ℕ) where
   lines-more i h =
       let rows = take i (replyOf T q .rows) in
       let place : i ≡ 0 + length rows = omega (arith, length-take-le i (replyOf T q .rows) (omega (arith, rows-length T q))) in
-      ap (rowLines 0) (rows-next T q i h) ∙ rows-snoc rows 0 i (rowIn T q i) place
+      ap (rowLines 0) (rows-next T q i h) ∙ lines-snoc rowLine rows 0 i (rowIn T q i) place
 
   module _ (out : List ℕ) (at : ℕ) where
-    pub lines-none : Puts out out at at (rowLines 0 (take 0 (replyOf T q .rows)))
-    lines-none = rw (rows-none 0) (copy-none out at [], omega arith)
+    pub row-lines-none : Puts out out at at (rowLines 0 (take 0 (replyOf T q .rows)))
+    row-lines-none = rw (lines-none rowLine 0) (copy-none out at [], omega arith)
 
     pub lines-turn : (i : ℕ) {mid end : List ℕ} {m n : ℕ} → i < nops T → Puts out mid at m (rowLines 0 (take i (replyOf T q .rows)))
         → Puts mid end m n (rowLine i (rowIn T q i)) → Puts out end at n (rowLines 0 (take (i + 1) (replyOf T q .rows)))

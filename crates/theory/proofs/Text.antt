@@ -12,7 +12,7 @@ use Rattle.rules.specs.Table.{Table, nops, op, noOp, Accepted}
 use Rattle.rules.specs.Rows.{Row, Reply, replyOf}
 use Rattle.rules.specs.Verdicts.{Verdict, accepted, refused}
 use Rattle.rules.specs.Judge.{judge}
-use Rattle.rules.specs.Text.{digits, decimal, periodWord, opWord, startWord, fstWord, refusedWord, space, newline, rowLine, rowLines, periodLine, refusedLine, replyText, textOf, longestText}
+use Rattle.rules.specs.Text.{digits, decimal, periodWord, opWord, startWord, fstWord, refusedWord, space, newline, rowLine, eachLine, rowLines, periodLine, refusedLine, replyText, textOf, longestText}
 use Rattle.rules.specs.Words.{valueFrom, valueOf}
 use Rattle.rules.specs.Answers.{Answers, Planned, ReplyTo}
 use Rattle.rules.specs.Bench.{All, k1-bytes}
@@ -205,23 +205,25 @@ period-short q h = omega (arith, period-length q, decimal-length 3 q (omega arit
 pub row-short : (i : ℕ) (r : Row) → i < 100 → r .start .number < 1000 → r .fst .number < 1000 → length (rowLine i r) ≤ 24
 row-short i r h g f = omega (arith, row-length i r, decimal-length 1 i h, decimal-length 2 (r .start .number) g, decimal-length 2 (r .fst .number) f)
 
-pub rows-none : (i : ℕ) → rowLines i [] ≡ []
-unfolding rowLines
-rows-none i = refl
+-- a line for each of a list, whatever the lines are
+module _ {A : Type 0} (line : ℕ → A → List ℕ) where
+  pub lines-none : (i : ℕ) → eachLine line i [] ≡ []
+  unfolding eachLine
+  lines-none i = refl
 
-rows-first : (i : ℕ) (r : Row) (rs : List Row) → rowLines i (r ∷ rs) ≡ rowLine i r ++ rowLines (suc i) rs
-unfolding rowLines
-rows-first i r rs = refl
+  lines-first : (i : ℕ) (x : A) (xs : List A) → eachLine line i (x ∷ xs) ≡ line i x ++ eachLine line (suc i) xs
+  unfolding eachLine
+  lines-first i x xs = refl
 
--- one row more, that of operation n
-pub rows-snoc : (rs : List Row) (i n : ℕ) (r : Row) → n ≡ i + length rs → rowLines i (rs ++ (r ∷ [])) ≡ rowLines i rs ++ rowLine n r
-rows-snoc [] i n r e =
-    let same : i ≡ n = omega arith in rows-first i r [] ∙ simp (rows-none, append-nil) (ap (λ (k : ℕ). rowLine k r) same)
-rows-snoc (x ∷ rs) i n r e =
-    rows-first i x (rs ++ (r ∷ []))
-    ∙ ap (λ (l : List ℕ). rowLine i x ++ l) (rows-snoc rs (suc i) n r (omega arith))
-    ∙ sym (append-assoc (rowLine i x) (rowLines (suc i) rs) (rowLine n r))
-    ∙ ap (λ (l : List ℕ). l ++ rowLine n r) (sym (rows-first i x rs))
+  -- one line more, the n-th
+  pub lines-snoc : (xs : List A) (i n : ℕ) (x : A) → n ≡ i + length xs → eachLine line i (xs ++ (x ∷ [])) ≡ eachLine line i xs ++ line n x
+  lines-snoc [] i n x e =
+      let same : i ≡ n = omega arith in lines-first i x [] ∙ simp (lines-none, append-nil) (ap (λ (k : ℕ). line k x) same)
+  lines-snoc (y ∷ xs) i n x e =
+      lines-first i y (xs ++ (x ∷ []))
+      ∙ ap (λ (l : List ℕ). line i y ++ l) (lines-snoc xs (suc i) n x (omega arith))
+      ∙ sym (append-assoc (line i y) (eachLine line (suc i) xs) (line n x))
+      ∙ ap (λ (l : List ℕ). l ++ line n x) (sym (lines-first i y xs))
 
 -- ---- no text is longer than longestText
 
@@ -229,12 +231,12 @@ rows-snoc (x ∷ rs) i n r e =
 rows-short : (d : Row) (rs : List Row) (i : ℕ) → i + length rs ≤ 100
     → ((k : ℕ) → k < length rs → (getD rs k d .start .number < 1000) × (getD rs k d .fst .number < 1000))
     → length (rowLines i rs) ≤ 24 * length rs
-rows-short d [] i h each = omega (arith, ap length (rows-none i))
+rows-short d [] i h each = omega (arith, ap length (lines-none rowLine i))
 rows-short d (r ∷ rs) i h each =
     let (start, fst) = each 0 (omega arith) in
     omega (
       arith,
-      ap length (rows-first i r rs),
+      ap length (lines-first rowLine i r rs),
       length-append (rowLine i r) (rowLines (suc i) rs),
       row-short i r (omega arith) start fst,
       rows-short d rs (suc i) (omega arith) (λ k g. each (suc k) (omega arith)),

@@ -7,7 +7,7 @@ use lib.ListN.{length}
 use denote.Ref.{now}
 use Rattle.rows.specs.Rows.{ticksOf}
 use Rattle.start_lines.specs.StartLines.{LinesPut}
-use Rattle.start_lines.specs.StartLineLaws.{lines-none, lines-turn}
+use Rattle.start_lines.specs.StartLineLaws.{start-lines-none, lines-turn}
 use borrow.Author.Needs.{needs}
 use Rattle.start_lines.proofs.put_lines.Statement.{statement}
 use Rattle.start_lines.proofs.put_lines.Tie as tie
@@ -19,7 +19,7 @@ abbrev μ-loop : tie.MeasureT-loop
 μ-loop s out₀ n end₀ i₀ out end i = n - i
 
 loop-holds : tie.Need-loop-holds Inv-loop μ-loop
-loop-holds c = let a = c .before .before .args in (omega arith, refl, lines-none (now (a .s)) (now (a .out)))
+loop-holds c = let a = c .before .before .args in (omega arith, refl, start-lines-none (now (a .s)) (now (a .out)))
 
 mul-start-at : tie.Need-mul-start-at Inv-loop μ-loop
 mul-start-at c = omega arith

@@ -13,7 +13,7 @@ use Rattle.replies.specs.Replies.{rowIn}
 use Rattle.replies.specs.ReplyLaws.{rows-end}
 use Rattle.theory.proofs.Text.{row-short, row-small}
 use Rattle.lines.specs.Lines.{Puts}
-use Rattle.text.specs.TextLaws.{lines-none, lines-turn}
+use Rattle.text.specs.TextLaws.{row-lines-none, lines-turn}
 use Rattle.text.proofs.put_row_lines.Statement.{statement}
 use Rattle.text.proofs.put_row_lines.Tie as tie
 
@@ -29,7 +29,7 @@ abbrev μ-loop : tie.MeasureT-loop
 
 loop-holds : tie.Need-loop-holds Inv-loop μ-loop
 loop-holds c =
-    let a = c .before .args in (lines-none (tableOf (a .t)) (a .q .0) (a .out .now) (a .at), omega arith, refl, omega arith)
+    let a = c .before .args in (row-lines-none (tableOf (a .t)) (a .q .0) (a .out .now) (a .at), omega arith, refl, omega arith)
 
 row-of-requires : tie.Need-row-of-requires Inv-loop μ-loop
 row-of-requires c κs = let s = c .before .before .before .before in (s .pre .0, omega arith, s .pre .1, s .pre .2)
