@@ -71,8 +71,8 @@ module _ {q : Question} (s : List ℕ) {t : Text} where
   said-nothing e f = subst⁻¹ (λ (r : Question). SaidFor r s t) e (askable, refl, f)
 
 -- the bytes that are counted are the text
-pub said-is : (q : Question) (s : List ℕ) (t : Text) → SaidFor q s t → IsSaid (askedBy q) s (take (t .len) (t .bytes))
-said-is q s t (b, is, e) = subst⁻¹ (λ (c : List ℕ). IsSaid (askedBy q) s c) (text-front b t e) is
+pub said-is : (q : rules.Question) (s : List ℕ) (t : Text) → (text : List ℕ) × IsSaid q s text × (t ≡ textIn text) → IsSaid q s (take (t .len) (t .bytes))
+said-is q s t (b, is, e) = subst⁻¹ (λ (c : List ℕ). IsSaid q s c) (text-front b t e) is
 
 -- from the words to the text: what is said for the question that words ask is said for the words, whatever words stand behind the fifth
 pub words-said : (count : ℕ) (a b c d e : List ℕ) (q : Question) (s text : List ℕ) → Asks count a b c d e q → IsSaid (askedBy q) s text

@@ -66,11 +66,11 @@ module _ (T : Table) (read : Read T) where
   ok : Accepted T
   ok = judge-accepted (tableBytes T) T read
 
-  is-right : (q : ℕ) → 1 ≤ q → rightb T q ≡ true → Right T q
-  is-right q low e = says-right T ok q low .0 e
+  tests-right : (q : ℕ) → 1 ≤ q → rightb T q ≡ true → Right T q
+  tests-right q low e = says-right T ok q low .0 e
 
-  is-wrong : (q : ℕ) → 1 ≤ q → rightb T q ≡ false → Right T q → ⊥
-  is-wrong q low e x = false≢true (sym e ∙ says-right T ok q low .1 x)
+  tests-wrong : (q : ℕ) → 1 ≤ q → rightb T q ≡ false → Right T q → ⊥
+  tests-wrong q low e x = false≢true (sym e ∙ says-right T ok q low .1 x)
 
   -- what the promise of plan makes of the table's bytes where there is room, whatever code meets it
   planned : (out : List ℕ) (w : Written) → length (replyBytes (replyOf T (periodOf T))) ≤ length out → IsPlan (tableBytes T) out w
@@ -116,7 +116,7 @@ not-invented out w h p =
 -- ---- halving: rightness is not monotone (K4)
 pub not-monotone : Right k4 2 × (Right k4 3 → ⊥)
 unfolding rightb
-not-monotone = (is-right k4 k4-read 2 (omega arith) refl, is-wrong k4 k4-read 3 (omega arith) refl)
+not-monotone = (tests-right k4 k4-read 2 (omega arith) refl, tests-wrong k4 k4-read 3 (omega arith) refl)
 
 -- ---- the data bound without the boards: K2's values are right at 1, and its period is 2
 pub bound-not-enough : ValuesRightAt k2 (spaced 1) × IsPeriod k2 2
@@ -214,7 +214,7 @@ distance-two-boards = (
     boards = no-boards-next k5 (λ i. i) (λ i h. k5-own i h .1) k5-same k5-turn;
     values = λ c i j a b p. in-none c (rw (k5-no-reads j) at (p .reads));
   },
-  is-wrong k5 k5-read 1 (omega arith) refl,
+  tests-wrong k5 k5-read 1 (omega arith) refl,
 )
 
 -- in K7 the first operation alone writes, and the second alone reads; the one has board 1, the other board 0; no mode follows itself
@@ -247,7 +247,7 @@ pub distance-two-values : NoneNext k7 × (Right k7 2 → ⊥)
 unfolding rightb
 distance-two-values = (
   record { boards = no-boards-next k7 (λ i. i + i) (λ i h. k7-own i h .1) k7-same k7-turn; values = values },
-  is-wrong k7 k7-read 2 (omega arith) refl,
+  tests-wrong k7 k7-read 2 (omega arith) refl,
 )
   where
     values : (c i j a b : ℕ) → ValuePair k7 1 c i j a b → ⊥
@@ -288,7 +288,7 @@ k9-reach (turn {a = a} {b = b} x f) = single b 1 (subst (λ (m : ℕ). In b (fol
 -- ---- modes that no run reaches do not count: K9's operation would meet itself at 1, in mode 0
 pub unreached : Walk k9 Any 1 0 0 × Overlap 0 4 (0 + 1) (4 + 1) × (Reach k9 0 → ⊥) × Right k9 1
 unfolding has rightb
-unreached = (last refl, omega arith, λ x. omega (arith, k9-reach x), is-right k9 k9-read 1 (omega arith) refl)
+unreached = (last refl, omega arith, λ x. omega (arith, k9-reach x), tests-right k9 k9-read 1 (omega arith) refl)
 
 k8-reads : (j c : ℕ) → In c (op k8 j .reads) → op k8 j .start ≡ 2
 k8-reads zero c h = absurd (in-none c h)
@@ -327,7 +327,7 @@ unfolding periodOf rightb has
 starts-first = (
   period-found k8 (ok k8 k8-read),
   record {
-    boards = is-right k8 k8-read 4 (omega arith) refl .boards;
+    boards = tests-right k8 k8-read 4 (omega arith) refl .boards;
     values = λ r run c i k j l y v s. at-four c i k j l v (s .writes) (s .before);
   },
   λ q less right.

@@ -27,7 +27,7 @@ slice-aggregate-emit c =
 
 emit-requires : tie.Need-emit-requires
 emit-requires c κs =
-    let made = c .before .before .say in said-is (c .before .before .before .before .args .q) _ (made .result) (made .ensures)
+    let made = c .before .before .say in said-is _ _ (made .result) (made .ensures)
 
 returns : tie.Need-returns
 returns c = search needs
