@@ -1,9 +1,10 @@
-//! The tables of `examples/`: hexadecimal text whose comments say what `fold` prints, the bytes
-//! made from it, and what the program `bench` prints for them.
+//! The tables of `examples/`: hexadecimal text whose comments say what `fold` prints, without
+//! words and with them, the bytes made from it, and what the program `bench` prints for them.
 
 use crate::answers::{self, plan};
 use crate::hex::bytes_in;
 use crate::judge::{bytes_of, judge, Table};
+use crate::words::{self, Word};
 use crate::{runs, walks};
 use std::io::{Read, Write};
 use std::path::Path;
@@ -58,11 +59,36 @@ pub fn plan_command() -> bool {
 
 // ---- what the comments say ----------------------------------------------
 
-/// What the comments say that `fold` prints: the indented lines below "fold prints:".
-fn promised(text: &str) -> String {
-    let below = text.lines().skip_while(|line| *line != "# fold prints:");
-    let lines = below.skip(1).map_while(|line| line.strip_prefix("#   "));
-    lines.map(|line| format!("{}\n", line)).collect()
+/// The words of a line "fold WORDS prints:", none of them in "fold prints:".
+fn words_in(line: &str) -> Option<Vec<Word>> {
+    let words = line.strip_prefix("# fold ")?.strip_suffix("prints:")?;
+    let bytes = |word: &str| word.as_bytes().to_vec();
+    Some(words.split_whitespace().map(bytes).collect())
+}
+
+/// What the comments say that `fold` prints, with the words that it is asked with: the indented
+/// lines below each such line.
+fn promised(text: &str) -> Vec<(Vec<Word>, String)> {
+    let lines: Vec<&str> = text.lines().collect();
+    let below = |at: usize| {
+        let answer = lines[at + 1..]
+            .iter()
+            .map_while(|line| line.strip_prefix("#   "));
+        answer.map(|line| format!("{}\n", line)).collect()
+    };
+    let asked = lines.iter().enumerate();
+    asked
+        .filter_map(|(at, line)| words_in(line).map(|words| (words, below(at))))
+        .collect()
+}
+
+/// `fold` without words is among what is promised, and all that is promised is so.
+fn is_kept(promises: &[(Vec<Word>, String)], bytes: &[u8]) -> bool {
+    let nothing = String::new();
+    let kept = |(words, text): &(Vec<Word>, String)| {
+        words::printed(words, bytes) == (text.clone(), nothing.clone())
+    };
+    promises.iter().any(|(words, _)| words.is_empty()) && promises.iter().all(kept)
 }
 
 /// The table's period is the smallest one at which every run is right, laid out one by one.
@@ -70,14 +96,14 @@ fn is_found_by_runs(table: &Table) -> bool {
     runs::period(table) == walks::period(table)
 }
 
-/// The bytes fold as the comments say. A table is written as it is read, and the period of a
+/// The bytes are folded, and asked about, as the comments say. A table is written as it is read, and the period of a
 /// tiny one is also found by laying out its runs.
 fn folds_as_promised(text: &str) -> bool {
     bytes_in(text).map_or(false, |bytes| {
         let table_is_good = judge(&bytes).map_or(true, |table| {
             bytes_of(&table) == bytes && (table.len > TINY || is_found_by_runs(&table))
         });
-        table_is_good && answers::text(&bytes) == promised(text)
+        table_is_good && is_kept(&promised(text), &bytes)
     })
 }
 

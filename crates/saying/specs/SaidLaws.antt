@@ -1,7 +1,8 @@
--- What is said for a question of the code is said for the words that ask it, also where a number was beyond 64 bits.
+-- The text for each question, and that what is printed for a question of the code is printed for the words that ask it, also where a number
+-- was beyond 64 bits.
 -- Assumes nothing.
 use Prim.Native.Nat.{ℕ, _<_, _≤_}
-use mathlib.Core.Path.{_≡_, refl, subst, subst⁻¹}
+use mathlib.Core.Path.{_≡_, refl, ap, subst, subst⁻¹, _∙_}
 use mathlib.Core.Bool.{Bool, true, false}
 use mathlib.Core.List.{List, [], _∷_}
 use mathlib.Core.Logic.{inl, inr}
@@ -14,7 +15,7 @@ use Rattle.rules.specs.Words as rules
 use Rattle.rules.specs.Verdicts.{Verdict}
 use Rattle.rules.specs.Judge.{judgeReply}
 use Rattle.rules.specs.Text.{told, yesNoLine, marginLine, startsText}
-use Rattle.rules.specs.Answers.{Fit, BoardsFit, Arrive, ValuesArrive, IsMargin, IsSaid, printed}
+use Rattle.rules.specs.Answers.{Fit, BoardsFit, Arrive, ValuesArrive, IsMargin, IsSaid, printed, IsPrinted}
 use Rattle.theory.proofs.Beyond.{Alike, yes-no-alike, margin-asked-alike}
 use Rattle.text.specs.declared.Text.{Text}
 use Rattle.text.specs.Texts.{textIn}
@@ -74,11 +75,26 @@ module _ {q : Question} (s : List ℕ) {t : Text} where
 pub said-is : (q : rules.Question) (s : List ℕ) (t : Text) → (text : List ℕ) × IsSaid q s text × (t ≡ textIn text) → IsSaid q s (take (t .len) (t .bytes))
 said-is q s t (b, is, e) = subst⁻¹ (λ (c : List ℕ). IsSaid q s c) (text-front b t e) is
 
--- from the words to the text: what is said for the question that words ask is said for the words, whatever words stand behind the fifth
-pub words-said : (count : ℕ) (a b c d e : List ℕ) (q : Question) (s text : List ℕ) → Asks count a b c d e q → IsSaid (askedBy q) s text
-    → (ws : List (List ℕ)) → length ws ≡ count → take 5 ws ≡ take count (a ∷ b ∷ c ∷ d ∷ e ∷ []) → IsSaid (questionOf ws) s text
-words-said count a b c d e q s text asks said ws long first =
-    said-capped (questionOf ws) s text (subst (λ (x : rules.Question). IsSaid x s text) (asks ws long first) said)
+-- whether anything is asked does not depend on the numbers
+capped-printed : (q : rules.Question) (text : List ℕ) → printed (cappedQuestion q) text ≡ printed q text
+unfolding cappedQuestion printed
+capped-printed foldAsked text = refl
+capped-printed (boardsAsked q) text = refl
+capped-printed (valuesAsked q) text = refl
+capped-printed (marginAsked i j n q) text = refl
+capped-printed unfoldAsked text = refl
+capped-printed nothingAsked text = refl
+
+-- from the words to both streams: what is printed for the question that the code read is what is printed for the words, whatever words stand
+-- behind the fifth
+pub words-printed : (count : ℕ) (a b c d e : List ℕ) (q : Question) (s text : List ℕ) → Asks count a b c d e q → IsSaid (askedBy q) s text
+    → (ws : List (List ℕ)) → length ws ≡ count → take 5 ws ≡ take count (a ∷ b ∷ c ∷ d ∷ e ∷ []) → IsPrinted ws s (printed (askedBy q) text)
+words-printed count a b c d e q s text asks said ws long first =
+    let same = asks ws long first in (
+      text,
+      said-capped (questionOf ws) s text (subst (λ (x : rules.Question). IsSaid x s text) same said),
+      ap (λ (x : rules.Question). printed x text) same ∙ capped-printed (questionOf ws) text,
+    )
 
 -- ---- the stream of a text
 module _ (q : rules.Question) (text : List ℕ) where
