@@ -6,7 +6,7 @@ use mathlib.Core.Bool.{Bool, true, false, not}
 use mathlib.Core.Logic.{_↔_}
 use borrow.Author.Tests.{not-true, not-false}
 use Rattle.rules.specs.Table.{Table, Accepted}
-use Rattle.rules.specs.Verdicts.{Verdict, accepted, refused, onwards}
+use Rattle.rules.specs.Verdicts.{Verdict, accepted, onwards}
 use Rattle.rules.specs.Answers.{Answers}
 use Rattle.theory.proofs.Says.{clash-bool}
 use Rattle.theory.proofs.Verdicts.{onwards-accepts}

@@ -5,7 +5,7 @@ use mathlib.Core.Path.{_≡_, ap, subst, subst⁻¹}
 use mathlib.Core.Bool.{Bool}
 use mathlib.Core.List.{List}
 use Rattle.rules.specs.Table.{Table}
-use Rattle.rules.specs.Verdicts.{Verdict, accepted, ASK, _then_}
+use Rattle.rules.specs.Verdicts.{Verdict, accepted, _then_}
 use Rattle.rules.specs.Answers.{periodAsked, askedTable, YesFor, YesNo}
 use Rattle.theory.proofs.Verdicts.{then-accepts, then-refuses}
 use Rattle.theory.proofs.Asking.{asked-in, asked-out, question}

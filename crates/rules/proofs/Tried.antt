@@ -22,8 +22,8 @@ use Rattle.rules.specs.Verdicts.{Verdict, accepted, refused, Test, _then
 use Rattle.rules.specs.Bytes.{tableBytes, longestTable, joined, replyBytes, startsBytes}
 use Rattle.rules.specs.Judge.{opsFrom, judge, judgeNumbers, judgeReply}
 use Rattle.rules.specs.Text.{replyText, textOf, yesNoLine, marginLine, startsText}
-use Rattle.rules.specs.Words.{Question, foldAsked, boardsAsked, valuesAsked, marginAsked, unfoldAsked, nothingAsked, questionOf, askable}
-use Rattle.rules.specs.Answers.{put, written, Answers, bytesOf, IsText, IsUnfold, marginTest, asked, Fit, Arrive, BoardsFit, ValuesArrive, Printed, printed, IsPrinted, IsSaid}
+use Rattle.rules.specs.Words.{foldAsked, boardsAsked, valuesAsked, marginAsked, unfoldAsked, nothingAsked, questionOf, askable}
+use Rattle.rules.specs.Answers.{put, written, Answers, bytesOf, IsText, IsUnfold, marginTest, asked, BoardsFit, ValuesArrive, printed, IsPrinted, IsSaid}
 use Rattle.rules.specs.Bench.{opn, oneMode, k1, k1-bytes, k2, k3, k4, k5, k6, k7, k8, k9, k10, k10-touching, row}
 
 -- ---- members of small sets

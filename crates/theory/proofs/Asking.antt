@@ -7,7 +7,7 @@ use mathlib.Core.List.{List}
 use lib.Dec.{leb, ltb}
 use borrow.Author.Tests.{not-false}
 use Rattle.rules.specs.Table.{Table, nops}
-use Rattle.rules.specs.Verdicts.{Verdict, accepted, refused, ASK, _then_, onwards}
+use Rattle.rules.specs.Verdicts.{Verdict, accepted, refused, ASK, _then_}
 use Rattle.rules.specs.Judge.{judge}
 use Rattle.rules.specs.Answers.{Answers, asked, periodAsked, marginTest, askedTable, YesFor, YesNo}
 use Rattle.theory.proofs.Says.{says-leb, says-ltb, says-and, Known, known, holds, fails}

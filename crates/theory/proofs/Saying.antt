@@ -1,20 +1,14 @@
 -- What the program prints: for every words and every input there is just one text on each stream, and no byte of the input past 821 matters; and
 -- a number beyond every range may stand for any other.
 -- Assumes nothing.
-use Prim.Native.Nat.{ℕ, _<_, _≤_}
-use mathlib.Core.Path.{_≡_, refl, sym, ap, subst, _∙_}
-use mathlib.Core.Bool.{Bool}
+use Prim.Native.Nat.{ℕ}
+use mathlib.Core.Path.{_≡_, refl, sym, ap, _∙_}
 use mathlib.Core.List.{List}
-use mathlib.Core.Logic.{_⊎_, inl, inr}
-use native.Mathlib.Omega.{arith}
-use lib.IntN.{ℤ}
 use lib.ListN.{take}
-use Rattle.rules.specs.Table.{Table}
-use Rattle.rules.specs.Verdicts.{Verdict, accepted, refused}
 use Rattle.rules.specs.Bytes.{farthest}
 use Rattle.rules.specs.Text.{told, yesNoLine, marginLine, startsText}
 use Rattle.rules.specs.Words.{Question, foldAsked, boardsAsked, valuesAsked, marginAsked, unfoldAsked, nothingAsked, questionOf, askable}
-use Rattle.rules.specs.Answers.{IsText, BoardsFit, ValuesArrive, IsMargin, IsSaid, Printed, printed, IsPrinted}
+use Rattle.rules.specs.Answers.{IsSaid, Printed, printed, IsPrinted}
 use Rattle.theory.proofs.Lengths.{reply-no-farther}
 use Rattle.theory.proofs.Answering.{text-unique, text-exists, text-near, boards-unique, boards-exists, boards-near, values-unique, values-exists, values-near, margin-near}
 

@@ -7,7 +7,7 @@ use native.Mathlib.Omega.{arith}
 use borrow.Author.Needs.{needs}
 use Rattle.theory.specs.Tests.{boardsFine}
 use Rattle.table.specs.Tables.{tableOf}
-use Rattle.period.specs.PeriodLaws.{Passed, passed-first, passed-below, passed-more, passed-found}
+use Rattle.period.specs.PeriodLaws.{Passed, passed-first, passed-more, passed-found}
 use Rattle.period.proofs.smallest.Statement.{statement}
 use Rattle.period.proofs.smallest.Tie as tie
 
