@@ -517,8 +517,6 @@ fn words(tally: &mut Tally) {
     tally.check("no words", printed(&[], &k1()) == fold);
     tally.check("an empty word", printed(&[vec![]], &k1()) == list);
     tally.check("lines", lines_are_as_said());
-    let lines: Vec<&str> = LIST.split_inclusive('\n').collect();
-    tally.check("list", lines.len() == 6 && LIST.ends_with('\n'));
 }
 
 // ---- checks on drawn inputs ---------------------------------------------

@@ -1,12 +1,12 @@
 -- What the code's test of a range says, and how a question goes on from the verdict on the table.
 -- Assumes nothing.
 use Prim.Native.Nat.{ℕ, _≤_}
-use mathlib.Core.Path.{_≡_, refl, sym, ap, subst⁻¹, _∙_}
+use mathlib.Core.Path.{_≡_, sym, ap, _∙_}
 use mathlib.Core.Bool.{Bool, true, false, not}
 use mathlib.Core.Logic.{_↔_}
 use borrow.Author.Tests.{not-true, not-false}
 use Rattle.rules.specs.Table.{Table, Accepted}
-use Rattle.rules.specs.Verdicts.{Verdict, accepted, onwards}
+use Rattle.rules.specs.Verdicts.{Verdict, onwards}
 use Rattle.rules.specs.Answers.{Answers}
 use Rattle.theory.proofs.Says.{clash-bool}
 use Rattle.theory.proofs.Verdicts.{onwards-accepts}
@@ -31,11 +31,6 @@ module _ {x top : ℕ} {r : Bool} (e : (r ≡ true) ↔ ((1 ≤ x) × (x ≤ top
 pub refused-answers : {A B : Type 0} (P : A → B → Type 0) {v : Verdict A} (r : Refusal) → v ≡ refusalOf r → Answers P v (refusalOf r)
 unfolding Answers
 refused-answers {A} {B} P r e = let (n, a, b, x, y) = refusal-is {A = A} {B = B} r in rw (e, x, y)
-
--- what holds of an accepted table is the answer
-pub accepted-answers : {A B : Type 0} (P : A → B → Type 0) {v : Verdict A} {x : A} {y : B} → v ≡ accepted x → P x y → Answers P v (accepted y)
-unfolding Answers
-accepted-answers {A} P {y = y} e p = subst⁻¹ (λ (u : Verdict A). Answers P u (accepted y)) e (y, p, refl)
 
 -- an accepted table is asked
 pub accepted-on : {A : Type 0} {v : Verdict Table} {t : code.Table} (f : Table → Verdict A) (took : Took v t) → Accepted (took .table) → f (tableOf t) ≡ onwards v f

@@ -1,5 +1,5 @@
 // Document 01's cases, the papers' own examples, the analyzers' tables and the largest table: each file of data/ is read, and its
-// name and the text that `planner::text` makes of it are printed. Then K1 into 11 and into 12 bytes. What is expected is what the
+// name and what `fold` prints for it are printed. Then K1 into 11 and into 12 bytes. What is expected is what the
 // independent planner prints.
 use fields::Answer;
 use libc::STDOUT_FILENO;

@@ -1,17 +1,33 @@
 // Reads at most 4096 bytes of standard input and prints what the words behind the program's name ask about them; without words the
 // period and the rows of a table. Words that ask nothing get the list of what can be asked, and nothing is read.
-ghost use Rattle.io.specs.Counts.{Counts};
+ghost use mathlib.Core.Path.{_≡_};
+ghost use lib.ListN.{length};
 use libc::STDIN_FILENO;
 use words::Question;
+use words::Word;
 
-// Word i, counted from the program's own name; no bytes where there is none, or where it is longer than the buffer.
-fn fetch(i: usize, word: &mut [u8]) -> usize
-    ensures { λ r. ⌜ Counts r (now (word .exit)) ⌝ }
+// No word that the system hands over is longer: 131,072 bytes have room for it and its end.
+const LONGEST_WORD: usize = 131072;
+
+fn room() -> [u8; LONGEST_WORD]
+    ensures { λ r. ⌜ 131072 ≡ length r ⌝ }
 {
-    if os::arg_count() <= i {
-        return 0;
+    [0; LONGEST_WORD]
+}
+
+// Word i, counted from the program's own name.
+fn fetch(i: usize) -> Word {
+    let mut word = room();
+    let n = os::arg(i, &mut word);
+    planner::word_of(&word[..n])
+}
+
+// The same where there are so many words behind the name; else none, and what stands for it is not looked at.
+fn word(i: usize, count: usize) -> Word {
+    if count < i {
+        return Word::Other;
     }
-    os::arg(i, word)
+    fetch(i)
 }
 
 // How many words stand behind the program's name.
@@ -23,25 +39,31 @@ fn word_count() -> usize {
     all - 1
 }
 
+// What no words ask: no room is made for one.
+fn unworded() -> Question {
+    planner::question_of(
+        0,
+        Word::Other,
+        Word::Other,
+        Word::Other,
+        Word::Other,
+        Word::Other,
+    )
+}
+
 // What the words ask. No question has more than five.
 fn question() -> Question {
-    let mut first = io::large_buffer();
-    let a = fetch(1, &mut first);
-    let mut second = io::large_buffer();
-    let b = fetch(2, &mut second);
-    let mut third = io::large_buffer();
-    let c = fetch(3, &mut third);
-    let mut fourth = io::large_buffer();
-    let d = fetch(4, &mut fourth);
-    let mut fifth = io::large_buffer();
-    let e = fetch(5, &mut fifth);
+    let n = word_count();
+    if n == 0 {
+        return unworded();
+    }
     planner::question_of(
-        word_count(),
-        &first[..a],
-        &second[..b],
-        &third[..c],
-        &fourth[..d],
-        &fifth[..e],
+        n,
+        word(1, n),
+        word(2, n),
+        word(3, n),
+        word(4, n),
+        word(5, n),
     )
 }
 
@@ -53,7 +75,7 @@ fn main() {
     }
     let mut input = io::buffer();
     let n = io::read_full(STDIN_FILENO, &mut input);
-    // errno is 0 when a program begins, a word that was fetched whole leaves it so, and where one was not, nothing is asked
+    // errno is 0 when a program begins, and a word that was fetched leaves it so
     if os::errno() != 0 {
         os::fail(b"standard input");
         return;

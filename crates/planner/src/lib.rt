@@ -1,11 +1,13 @@
 // The planner: the public functions. Each promise is a definition of `rules` about the answer, told in document 01's numbers.
+ghost use mathlib.Core.Path.{_≡_};
+ghost use mathlib.Core.List.{[], _∷_};
 ghost use Rattle.rules.specs.Answers.{IsPlan, IsFold, IsUnfold, IsMargin, IsPeriodOf, BoardsFit, ValuesArrive, IsWrite};
 ghost use Rattle.fields.specs.Verdicts.{answered, leaving};
 ghost use Rattle.handed.specs.Handed.{numbers};
 ghost use Rattle.questions.specs.Questions.{truthOf, foundOf};
 ghost use Rattle.margins.specs.Margins.{measuredOf};
 ghost use Rattle.folds.specs.Folds.{TextFor};
-ghost use Rattle.words.specs.Words.{Asks};
+ghost use Rattle.words.specs.Words.{wordIs, readAs, Asks};
 ghost use Rattle.saying.specs.Said.{SaidFor};
 use fields::Answer;
 use margins::Measured;
@@ -13,6 +15,7 @@ use questions::Found;
 use questions::Truth;
 use text::Text;
 use words::Question;
+use words::Word;
 
 // A table's reply: its period and rows, from the front of the buffer. On a refusal every byte of it stays.
 pub fn plan(s: &[u8], out: &mut [u8]) -> Answer
@@ -39,9 +42,16 @@ pub fn fold(s: &[u8], out: &mut [u8]) -> Answer
 
 // ---- the words behind the program's name, and what it prints for them
 
+// A word, read: the name of a question, a number, or neither.
+pub fn word_of(w: &[u8]) -> Word
+    ensures { λ r. ⌜ wordIs r ≡ readAs (now (w .entry)) ⌝ }
+{
+    words::word_of(w)
+}
+
 // What words ask, by their number and the first five of them.
-pub fn question_of(count: usize, a: &[u8], b: &[u8], c: &[u8], d: &[u8], e: &[u8]) -> Question
-    ensures { λ r. ⌜ Asks count (now (a .entry)) (now (b .entry)) (now (c .entry)) (now (d .entry)) (now (e .entry)) r ⌝ }
+pub fn question_of(count: usize, a: Word, b: Word, c: Word, d: Word, e: Word) -> Question
+    ensures { λ r. ⌜ Asks count (wordIs a ∷ wordIs b ∷ wordIs c ∷ wordIs d ∷ wordIs e ∷ []) r ⌝ }
 {
     words::question_of(count, a, b, c, d, e)
 }

@@ -8,7 +8,7 @@ use Rattle.rules.specs.Table.{Table}
 use Rattle.rules.specs.Verdicts.{Verdict, accepted, _then_}
 use Rattle.rules.specs.Answers.{periodAsked, askedTable, YesFor, YesNo}
 use Rattle.theory.proofs.Verdicts.{then-accepts, then-refuses}
-use Rattle.theory.proofs.Asking.{asked-in, asked-out, question}
+use Rattle.theory.proofs.Asking.{asked-in, asked-out, question, accepted-answers}
 use Rattle.theory.proofs.Judging.{judge-accepted}
 use Rattle.fields.specs.Verdicts.{refusalOf}
 use Rattle.fields.specs.declared.Refusal.{Refusal}
@@ -18,7 +18,7 @@ use Rattle.table.specs.Tables.{JudgedAs, tableOf, tableIn, Good}
 use Rattle.table.specs.JudgedLaws.{granted, judged-accepted, judged-refused, took-good, took-table}
 use Rattle.table.specs.declared.Table as code
 use Rattle.table.specs.declared.Judged.{Judged}
-use Rattle.asks.specs.AskLaws.{refused-answers, accepted-answers}
+use Rattle.asks.specs.AskLaws.{refused-answers}
 
 module _ (T : Table) (q : ℕ) where
   -- q is not from 1 to the length

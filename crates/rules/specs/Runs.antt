@@ -66,7 +66,7 @@ abbrev pub spaced : ℕ → ℕ → ℕ
 spaced q k = k * q
 
 -- "A period q .. is right when, in every run, with each operation at t + k·q" both hold. This is said of every number q: "from 1 to p" stands
--- in IsPeriod and, for the question, in Answers.periodAsked.
+-- in IsPeriod and, for what is asked about q, in Answers.periodAsked.
 abbrev pub Right : Table → ℕ → Type 0
 Right T q = RightAt T (spaced q)
 

@@ -4,7 +4,7 @@
 use Prim.Native.Nat.{ℕ, _<_}
 use mathlib.Core.Path.{_≡_, refl, ap, subst, subst⁻¹, _∙_}
 use mathlib.Core.Bool.{Bool, true, false}
-use mathlib.Core.List.{List, [], _∷_}
+use mathlib.Core.List.{List, [], map}
 use mathlib.Core.Logic.{inl, inr}
 use native.Mathlib.Decide.{decLt}
 use native.Mathlib.Omega.{arith}
@@ -23,7 +23,8 @@ use Rattle.text.specs.TextLaws.{text-front}
 use Rattle.folds.specs.Folds.{TextFor}
 use Rattle.words.specs.declared.Question.{Question}
 use Rattle.words.specs.declared.Question.the-variants as question
-use Rattle.words.specs.Words.{largest, capped, cappedQuestion, askedBy, Asks}
+use Rattle.words.specs.Words.{largest, capped, cappedQuestion, readAs, askedBy, Asks}
+use Rattle.words.specs.AskLaws.{asks-words}
 use Rattle.saying.specs.Said.{SaidFor}
 
 -- a capped number is the number, or both are beyond every range
@@ -87,10 +88,10 @@ capped-printed nothingAsked text = refl
 
 -- from the words to both streams: what is printed for the question that the code read is what is printed for the words, whatever words stand
 -- behind the fifth
-pub words-printed : (count : ℕ) (a b c d e : List ℕ) (q : Question) (s text : List ℕ) → Asks count a b c d e q → IsSaid (askedBy q) s text
-    → (ws : List (List ℕ)) → length ws ≡ count → take 5 ws ≡ take count (a ∷ b ∷ c ∷ d ∷ e ∷ []) → IsPrinted ws s (printed (askedBy q) text)
-words-printed count a b c d e q s text asks said ws long first =
-    let same = asks ws long first in (
+pub words-printed : (ws : List (List ℕ)) (five : List rules.Word) (q : Question) (s text : List ℕ) → take (length ws) five ≡ map readAs (take 5 ws)
+    → Asks (length ws) five q → IsSaid (askedBy q) s text → IsPrinted ws s (printed (askedBy q) text)
+words-printed ws five q s text read asks said =
+    let same = asks-words ws five q read asks in (
       text,
       said-capped (questionOf ws) s text (subst (λ (x : rules.Question). IsSaid x s text) same said),
       ap (λ (x : rules.Question). printed x text) same ∙ capped-printed (questionOf ws) text,

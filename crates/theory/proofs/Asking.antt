@@ -90,6 +90,11 @@ module _ {A B : Type 0} (P : A → B → Type 0) where
   answered-back (accepted z) v {x} a e = let same : z ≡ x = cc in (a .0, rw same at (a .1), a .2)
   answered-back (refused n b c) v a e = never-refused e
 
+  -- what holds of what was accepted is the answer
+  pub accepted-answers : {u : Verdict A} {x : A} {y : B} → u ≡ accepted x → P x y → Answers P u (accepted y)
+  unfolding Answers
+  accepted-answers {y = y} e p = subst⁻¹ (λ (v : Verdict A). Answers P v (accepted y)) e (y, p, refl)
+
   -- a refusal is that of what was to be accepted
   pub answered-refused : (u : Verdict A) (v : Verdict B) {n a b : ℕ} → Answers P u v → v ≡ refused n a b → u ≡ refused n a b
   unfolding Answers
@@ -106,6 +111,4 @@ module _ (P : Table → ℕ → Type 0) (s : List ℕ) (q : ℕ) where
 
   module _ (T : Table) (read : judge s ≡ accepted T) (low : 1 ≤ q) (high : q ≤ T .len) (holds : P T q) where
     pub yes-said : YesNo P s q (accepted true)
-    unfolding Answers
-    yes-said =
-        subst⁻¹ (λ (u : Verdict Table). Answers (YesFor P q) u (accepted true)) (questioned s q T read low high) (true, (λ _. holds, λ _. refl), refl)
+    yes-said = accepted-answers (YesFor P q) (questioned s q T read low high) (λ _. holds, λ _. refl)

@@ -10,11 +10,11 @@ use lib.Dec.{leb, ltb}
 use lib.IntN.{ℤ}
 use Rattle.rules.specs.Table.{Table, nops, Accepted}
 use Rattle.rules.specs.Rows.{margin}
-use Rattle.rules.specs.Verdicts.{Verdict, accepted, refused, _then_, onwards}
+use Rattle.rules.specs.Verdicts.{Verdict, accepted, refused, _then_}
 use Rattle.rules.specs.Judge.{judge}
 use Rattle.rules.specs.Answers.{Answers, asked, periodAsked, marginTest, askedTable, YesFor, YesNo, IsMargin}
 use Rattle.theory.proofs.Says.{says-same, says-leb, says-ltb, says-and}
-use Rattle.theory.proofs.Verdicts.{then-same}
+use Rattle.theory.proofs.Verdicts.{then-same, onwards-same}
 use Rattle.theory.proofs.Judging.{judge-accepted}
 use Rattle.theory.proofs.Asking.{margin-row, margin-passed, question}
 
@@ -72,11 +72,6 @@ module _ (T : Table) (ok : Accepted T) where
           )
 
 -- ---- said of the answers
-
-onwards-same : {A B : Type 0} (v : Verdict A) (f g : A → Verdict B) → ((x : A) → v ≡ accepted x → f x ≡ g x) → onwards v f ≡ onwards v g
-unfolding onwards
-onwards-same (accepted x) f g same = same x refl
-onwards-same (refused n a b) f g same = refl
 
 -- what is refused is refused whatever was asked
 refused-both : {A B : Type 0} (P Q : A → B → Type 0) (u : Verdict A) (v : Verdict B) → ((x : A) → u ≡ accepted x → ⊥) → Answers P u v → Answers Q u v

@@ -1,5 +1,4 @@
--- What the program prints: for every words and every input there is just one text on each stream, and no byte of the input past 821 matters; and
--- a number beyond every range may stand for any other.
+-- What the program prints: for all words and every input there is just one text on each stream, and no byte of the input past 821 matters.
 -- Assumes nothing.
 use Prim.Native.Nat.{ℕ}
 use mathlib.Core.Path.{_≡_, refl, sym, ap, _∙_}

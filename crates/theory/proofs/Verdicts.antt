@@ -71,6 +71,12 @@ module _ {A B : Type 0} where
   onwards-first (accepted x) f e = (x, refl, e)
   onwards-first (refused n a b) f e = never-refused e
 
+-- two ways to go on agree where they do on what was accepted
+pub onwards-same : {A B : Type 0} (v : Verdict A) (f g : A → Verdict B) → ((x : A) → v ≡ accepted x → f x ≡ g x) → onwards v f ≡ onwards v g
+unfolding onwards
+onwards-same (accepted x) f g same = same x refl
+onwards-same (refused n a b) f g same = refl
+
 -- three in a row, whichever two are put together first
 pub then-assoc : {A B C : Type 0} (u : Verdict A) (v : Verdict B) (w : Verdict C) → ((u then v) then w) ≡ (u then (v then w))
 unfolding _then_

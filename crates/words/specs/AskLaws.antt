@@ -7,7 +7,8 @@ use native.Mathlib.Omega.{arith}
 use lib.ListN.{length, take, length-map}
 use lib.Seq.{take-all}
 use Rattle.rules.specs.Words.{Word, Question, boardsName, valuesName, marginName, unfoldName, number, other, boardsAsked, valuesAsked, marginAsked, unfoldAsked, nothingAsked, withNumber, withNone, asks, wordOf, questionOf}
-use Rattle.words.specs.Words.{capped, cappedWord, cappedQuestion, readAs}
+use Rattle.words.specs.declared.Question as code
+use Rattle.words.specs.Words.{capped, cappedWord, cappedQuestion, readAs, askedBy, Asks}
 
 -- ---- words of which there are too few or too many
 
@@ -92,14 +93,11 @@ map-take f zero xs = refl
 map-take f (suc n) [] = refl
 map-take f (suc n) (x ∷ xs) = ap (λ (ys : List _). f x ∷ ys) (map-take f n xs)
 
--- what is asked of words that have been read is asked of them
-pub asks-words : (words : List (List ℕ)) (five : List Word) (count : ℕ) {q : Question} → five ≡ map readAs words
-    → ((vs : List Word) → length vs ≡ count → take 5 vs ≡ take count five → q ≡ asks vs)
-    → (ws : List (List ℕ)) → length ws ≡ count → take 5 ws ≡ take count words → q ≡ cappedQuestion (questionOf ws)
+-- what is asked of words as they were read is asked of the words, a number beyond 64 bits held as the largest
+pub asks-words : (ws : List (List ℕ)) (five : List Word) (q : code.Question) → take (length ws) five ≡ map readAs (take 5 ws)
+    → Asks (length ws) five q → askedBy q ≡ cappedQuestion (questionOf ws)
 unfolding questionOf
-asks-words words five count e read ws l f =
-    let first : take 5 (map readAs ws) ≡ take count five = sym (map-take readAs 5 ws) ∙ ap (map readAs) f ∙ map-take readAs count words ∙ ap (take count) (sym e) in
-    read (map readAs ws) (length-map ws readAs ∙ l) first ∙ ap asks (sym (map-map cappedWord wordOf ws)) ∙ sym (capped-asks (map wordOf ws))
-
-pub five-same : {a b c d e a′ b′ c′ d′ e′ : Word} → a ≡ a′ → b ≡ b′ → c ≡ c′ → d ≡ d′ → e ≡ e′ → a ∷ b ∷ c ∷ d ∷ e ∷ [] ≡ a′ ∷ b′ ∷ c′ ∷ d′ ∷ e′ ∷ []
-five-same p q r s t = cc
+asks-words ws five q read asked =
+    asked (map readAs ws) (length-map ws readAs) (sym (map-take readAs 5 ws) ∙ sym read)
+    ∙ ap asks (sym (map-map cappedWord wordOf ws))
+    ∙ sym (capped-asks (map wordOf ws))

@@ -5,7 +5,7 @@ use mathlib.Core.Path.{_≡_}
 use mathlib.Core.Bool.{cond}
 use mathlib.Core.List.{List, [], _∷_}
 use lib.ListN.{length, take}
-use Rattle.rules.specs.Words.{isNumber, valueOf, wordOf, boardsName, valuesName, marginName, unfoldName, number, other, foldAsked, boardsAsked, valuesAsked, marginAsked, unfoldAsked, nothingAsked, asks, questionOf}
+use Rattle.rules.specs.Words.{isNumber, valueOf, wordOf, boardsName, valuesName, marginName, unfoldName, number, other, foldAsked, boardsAsked, valuesAsked, marginAsked, unfoldAsked, nothingAsked, asks}
 use Rattle.rules.specs.Words as rules
 use Rattle.words.specs.declared.Word.{Word}
 use Rattle.words.specs.declared.Word.the-variants as word
@@ -62,14 +62,8 @@ askedBy (question.Margin i j n q) = marginAsked i j n q
 askedBy question.Unfold = unfoldAsked
 askedBy question.Nothing = nothingAsked
 
--- ---- what is asked, by the number of words and the first five of them
+-- ---- what is asked, by the number of words and the first five of them, as they are read
 
 -- whatever list of so many words begins with the five, or, where it has fewer, is the first of them
-
-abbrev pub Asks : ℕ → List ℕ → List ℕ → List ℕ → List ℕ → List ℕ → Question → Type 0
-Asks count a b c d e r =
-    (ws : List (List ℕ)) → length ws ≡ count → take 5 ws ≡ take count (a ∷ b ∷ c ∷ d ∷ e ∷ []) → askedBy r ≡ cappedQuestion (questionOf ws)
-
--- the same of words that have been read
-abbrev pub AsksRead : ℕ → List rules.Word → Question → Type 0
-AsksRead count five r = (ws : List rules.Word) → length ws ≡ count → take 5 ws ≡ take count five → askedBy r ≡ asks ws
+abbrev pub Asks : ℕ → List rules.Word → Question → Type 0
+Asks count five r = (ws : List rules.Word) → length ws ≡ count → take 5 ws ≡ take count five → askedBy r ≡ asks ws

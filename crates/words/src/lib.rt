@@ -4,7 +4,7 @@ ghost use mathlib.Core.Bool.{true};
 ghost use mathlib.Core.List.{[], _∷_};
 ghost use Prim.Native.Nat.{_+_, _-_, _*_};
 ghost use Rattle.rules.specs.Words.{isDigit, digitsOnly, isNumber, valueOf, sameBytes, asks, isAsked};
-ghost use Rattle.words.specs.Words.{capped, cappedWord, readAs, unnamedOf, wordIs, askedBy, Asks, AsksRead};
+ghost use Rattle.words.specs.Words.{capped, cappedWord, readAs, unnamedOf, wordIs, askedBy, Asks};
 
 // The largest number of 64 bits.
 const LARGEST: u64 = 18446744073709551615;
@@ -20,7 +20,7 @@ pub enum Question {
 }
 
 // One word: the name of a question, a number, or neither.
-enum Word {
+pub enum Word {
     Boards,
     Values,
     Margin,
@@ -115,7 +115,8 @@ fn unnamed(w: &[u8]) -> Word
     Word::Other
 }
 
-fn word_of(w: &[u8]) -> Word
+// A word, read.
+pub fn word_of(w: &[u8]) -> Word
     ensures { λ r. ⌜ wordIs r ≡ readAs (now (w .entry)) ⌝ }
 {
     if same_bytes(w, b"boards") {
@@ -181,9 +182,9 @@ fn ask_five(a: Word, b: Word, c: Word, d: Word, e: Word) -> Question
     Question::Margin(i, j, n, q)
 }
 
-// So many words, of which these are the first five. Where there are fewer, the others of the five do not count.
-fn ask(count: usize, a: Word, b: Word, c: Word, d: Word, e: Word) -> Question
-    ensures { λ r. ⌜ AsksRead count (wordIs a ∷ wordIs b ∷ wordIs c ∷ wordIs d ∷ wordIs e ∷ []) r ⌝ }
+// What words ask: so many, of which these are the first five. Where there are fewer, the others of the five do not count.
+pub fn question_of(count: usize, a: Word, b: Word, c: Word, d: Word, e: Word) -> Question
+    ensures { λ r. ⌜ Asks count (wordIs a ∷ wordIs b ∷ wordIs c ∷ wordIs d ∷ wordIs e ∷ []) r ⌝ }
 {
     match count {
         0 => Question::Fold,
@@ -192,18 +193,6 @@ fn ask(count: usize, a: Word, b: Word, c: Word, d: Word, e: Word) -> Question
         5 => ask_five(a, b, c, d, e),
         _ => Question::Nothing,
     }
-}
-
-// What the words ask, by their number and the bytes of the first five.
-pub fn question_of(count: usize, a: &[u8], b: &[u8], c: &[u8], d: &[u8], e: &[u8]) -> Question
-    ensures { λ r. ⌜ Asks count (now (a .entry)) (now (b .entry)) (now (c .entry)) (now (d .entry)) (now (e .entry)) r ⌝ }
-{
-    let first = word_of(a);
-    let second = word_of(b);
-    let third = word_of(c);
-    let fourth = word_of(d);
-    let fifth = word_of(e);
-    ask(count, first, second, third, fourth, fifth)
 }
 
 // Whether anything is asked.

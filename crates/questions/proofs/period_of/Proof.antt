@@ -4,7 +4,8 @@ use Rattle.rules.specs.Judge.{judge}
 use Rattle.rules.specs.Runs.{IsPeriod}
 use Rattle.theory.proofs.Judging.{judge-accepted}
 use Rattle.table.specs.JudgedLaws.{judged-accepted, judged-refused, took-good, took-table}
-use Rattle.asks.specs.AskLaws.{refused-answers, accepted-answers}
+use Rattle.theory.proofs.Asking.{accepted-answers}
+use Rattle.asks.specs.AskLaws.{refused-answers}
 use borrow.Author.Needs.{needs}
 use Rattle.questions.proofs.period_of.Statement.{statement}
 use Rattle.questions.proofs.period_of.Tie as tie

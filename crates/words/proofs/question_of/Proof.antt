@@ -1,46 +1,49 @@
--- Five words that have been read, by their number.
+-- By the number of words.
 -- Assumes nothing.
+use mathlib.Core.Path.{refl, sym, _∙_}
+use native.Mathlib.Omega.{arith}
 use borrow.Author.Needs.{needs}
-use Rattle.words.specs.AskLaws.{asks-words, five-same}
+use Rattle.rules.specs.Words.{asks}
+use Rattle.words.specs.AskLaws.{asks-first, count-not}
 use Rattle.words.proofs.question_of.Statement.{statement}
 use Rattle.words.proofs.question_of.Tie as tie
 
-word-of-requires : tie.Need-word-of-requires
-word-of-requires c κs = search needs
+ask-one-requires : tie.Need-ask-one-requires
+ask-one-requires c κs = search needs
 
-word-of-requires-2 : tie.Need-word-of-requires-2
-word-of-requires-2 c κs = search needs
+ask-two-requires : tie.Need-ask-two-requires
+ask-two-requires c κs = search needs
 
-word-of-requires-3 : tie.Need-word-of-requires-3
-word-of-requires-3 c κs = search needs
-
-word-of-requires-4 : tie.Need-word-of-requires-4
-word-of-requires-4 c κs = search needs
-
-word-of-requires-5 : tie.Need-word-of-requires-5
-word-of-requires-5 c κs = search needs
-
-ask-requires : tie.Need-ask-requires
-ask-requires c κs = search needs
+ask-five-requires : tie.Need-ask-five-requires
+ask-five-requires c κs = search needs
 
 returns : tie.Need-returns
-returns c =
-    let fifth = c .before in
-    let fourth = fifth .before in
-    let third = fourth .before in
-    let second = third .before in
-    let first = second .before in
-    let same = five-same (first .word-of .ensures) (second .word-of2 .ensures) (third .word-of3 .ensures) (fourth .word-of4 .ensures) (fifth .word-of5 .ensures) in
-    asks-words _ _ _ same (c .ask .ensures)
+unfolding asks
+returns c = asks-first _ _ _ (c .match .keys1) (omega arith) refl
+
+returns-2 : tie.Need-returns-2
+returns-2 c = asks-first _ _ _ (c .before .match .keys2) (omega arith) (c .ask-one .ensures)
+
+returns-3 : tie.Need-returns-3
+returns-3 c = asks-first _ _ _ (c .before .match .keys3) (omega arith) (c .ask-two .ensures)
+
+returns-4 : tie.Need-returns-4
+returns-4 c = asks-first _ _ _ (c .before .match .keys4) (omega arith) (c .ask-five .ensures)
+
+returns-5 : tie.Need-returns-5
+returns-5 c =
+    let n = c .match .rest in
+    λ ws l f. sym (count-not ws (λ e. n .0 .0 .0 .1 (sym l ∙ e)) (λ e. n .0 .0 .1 (sym l ∙ e)) (λ e. n .0 .1 (sym l ∙ e)) (λ e. n .1 (sym l ∙ e)))
 
 pub question-of-spec : {M : Type 1} → statement M
 question-of-spec =
     tie.close
     (tie.spec
-    word-of-requires
-    word-of-requires-2
-    word-of-requires-3
-    word-of-requires-4
-    word-of-requires-5
-    ask-requires
-    returns)
+    ask-one-requires
+    ask-two-requires
+    ask-five-requires
+    returns
+    returns-2
+    returns-3
+    returns-4
+    returns-5)
