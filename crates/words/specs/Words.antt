@@ -3,7 +3,7 @@
 use Prim.Native.Nat.{ℕ, min}
 use mathlib.Core.Path.{_≡_}
 use mathlib.Core.Bool.{cond}
-use mathlib.Core.List.{List, [], _∷_}
+use mathlib.Core.List.{List}
 use lib.ListN.{length, take}
 use Rattle.rules.specs.Words.{isNumber, valueOf, wordOf, boardsName, valuesName, marginName, unfoldName, number, other, foldAsked, boardsAsked, valuesAsked, marginAsked, unfoldAsked, nothingAsked, asks}
 use Rattle.rules.specs.Words as rules
