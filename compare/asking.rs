@@ -18,7 +18,7 @@ use std::process::{Child, Command, Output, Stdio};
 const MOST_PRINTED: u64 = 5;
 
 /// How many lines of words are drawn.
-const DRAWN: u64 = 150;
+const DRAWN: u64 = 100;
 
 /// How many of the programs run side by side.
 const BESIDE: usize = 2;
