@@ -24,9 +24,9 @@ fn ask_reader(modes: u32, fresh: u32, end: u32, start: u32, n: u32, bound: u32) 
 }
 
 // The bound, raised by every reader of a value that has come to the modes `modes` after n + 1 turns.
-pub fn ask_readers(t: Table, fresh: [u32; 32], modes: u32, end: u32, n: u32, bound: u32) -> u32
+pub fn ask_readers(t: Table, fresh: &[u32; 32], modes: u32, end: u32, n: u32, bound: u32) -> u32
     requires { ⌜ Good t × (end ≤ t .len) × (n ≤ 1000) × (bound ≤ t .len) ⌝ }
-    ensures { λ r. ⌜ Raised bound (Each (ReaderFine (tableOf t) fresh modes end n) (nops (tableOf t))) r ⌝ }
+    ensures { λ r. ⌜ Raised bound (Each (ReaderFine (tableOf t) (now (fresh .entry)) modes end n) (nops (tableOf t))) r ⌝ }
 {
     let mut most = bound;
     let mut j: usize = 0;

@@ -9,8 +9,8 @@ ghost use Rattle.boards.specs.Boards.{shiftFine, distanceFine};
 use table::Table;
 
 // Some mode of `to` can stand as many turns after a mode of `from` as the row says. Mostly `to` is empty, and no turn has to be made.
-fn can_follow(row: [u32; 32], from: u32, to: u32) -> bool
-    ensures { λ r. ⌜ r ≡ shares (step row from) to ⌝ }
+fn can_follow(row: &[u32], from: u32, to: u32) -> bool
+    ensures { λ r. ⌜ r ≡ shares (step (now (row .entry)) from) to ⌝ }
 {
     if to == 0 {
         return false;
@@ -19,9 +19,9 @@ fn can_follow(row: [u32; 32], from: u32, to: u32) -> bool
 }
 
 // No operation, shifted, wants a board of another or of itself in modes that can stand as far apart as the row says.
-fn distance_clear(t: Table, row: [u32; 32], reached: u32, shift: u32) -> bool
+fn distance_clear(t: Table, row: &[u32], reached: u32, shift: u32) -> bool
     requires { ⌜ Good t ⌝ }
-    ensures { λ r. ⌜ r ≡ shiftFine (tableOf t) row reached shift ⌝ }
+    ensures { λ r. ⌜ r ≡ shiftFine (tableOf t) (now (row .entry)) reached shift ⌝ }
 {
     let n = t.count;
     let mut i: usize = 0;
@@ -46,8 +46,7 @@ fn block_clear(t: Table, block: [[u32; 32]; 16], reached: u32, q: u32, done: u32
         if t.len <= shift {
             return true;
         }
-        let row = block[k];
-        if !distance_clear(t, row, reached, shift) {
+        if !distance_clear(t, &block[k], reached, shift) {
             return false;
         }
         k += 1;
@@ -72,7 +71,7 @@ pub fn boards_right(t: Table, first: [[u32; 32]; 16], reached: u32, q: u32) -> b
         if t.len <= (done + 1) * q {
             break;
         }
-        let next = turns::block(follow, block[15]);
+        let next = turns::block(&follow, &block[15]);
         block = next;
     }
     true

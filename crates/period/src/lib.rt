@@ -9,12 +9,11 @@ ghost use Rattle.turns.specs.Turns.{singles, blockFrom};
 use table::Table;
 
 // The first sixteen distances: they serve every period.
-fn first_block(t: Table) -> [[u32; 32]; 16]
-    ensures { λ r. ⌜ r ≡ blockFrom (t .follow) singles ⌝ }
+fn first_block(follow: &[u32]) -> [[u32; 32]; 16]
+    ensures { λ r. ⌜ r ≡ blockFrom (now (follow .entry)) singles ⌝ }
 {
-    let follow = t.follow;
     let each = turns::singles();
-    turns::block(follow, each)
+    turns::block(follow, &each)
 }
 
 // No two running steps hold one board at once, in any run.
@@ -23,7 +22,8 @@ pub fn boards_fit(t: Table, q: u32) -> bool
     ensures { λ r. ⌜ (r ≡ true) ↔ BoardsRightAt (tableOf t) (spaced q) ⌝ }
 {
     let reached = turns::reached(t);
-    let first = first_block(t);
+    let follow = t.follow;
+    let first = first_block(&follow);
     boards::boards_right(t, first, reached, q)
 }
 
@@ -43,7 +43,8 @@ pub fn smallest(t: Table) -> u32
     ensures { λ r. ⌜ IsPeriod (tableOf t) r ⌝ }
 {
     let reached = turns::reached(t);
-    let first = first_block(t);
+    let follow = t.follow;
+    let first = first_block(&follow);
     let mut q = values::values_bound(t, reached);
     loop {
         if boards::boards_right(t, first, reached, q) {

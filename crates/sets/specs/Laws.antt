@@ -9,12 +9,12 @@ use native.Mathlib.Nat.{one-mul}
 use native.Mathlib.Omega.{arith}
 use lib.Dec.{lit<}
 use lib.Pow.{shl-exact}
-use lib.Bits.{bitAnd, bitOr, or-zero-l, or-zero-r, and-le-l, and-le-r, xor-add-and}
-use lib.ListN.{getD, take, replicate}
+use lib.Bits.{bitAnd, bitOr, and-le-l, and-le-r, xor-add-and}
+use lib.ListN.{replicate}
 use borrow.Author.Tests.{eqb-true}
 use Rattle.rules.specs.Sets.{has, In, Within}
 use Rattle.theory.specs.Tests.{without, step}
-use Rattle.theory.proofs.Sets.{bit, bit-or, bit-suc, in-bit, says-within}
+use Rattle.theory.proofs.Sets.{bit, bit-or, in-bit, says-within}
 
 -- 1 shifted by m bits, in a type of w bits
 pub one-shl : (w m : ℕ) → m < w → (1 * 2 ^ m) % 2 ^ w ≡ 2 ^ m
@@ -22,7 +22,7 @@ one-shl w m h = shl-exact 1 m w (lit< tt) (omega arith) ∙ one-mul (2 ^ m)
 
 -- ---- a set is known by its members
 
-within-le : (s t : ℕ) → Within s t → s ≤ t
+pub within-le : (s t : ℕ) → Within s t → s ≤ t
 unfolding without
 within-le s t w =
     omega
@@ -44,18 +44,6 @@ or-assoc a b c =
 none : (t : Bool) → _≡_ {A = ℕ} (cond t 0 0) 0
 none true = refl
 none false = refl
-
-has-half : (s m : ℕ) → has (s / 2) m ≡ has s (suc m)
-unfolding has
-has-half s m = rw (bit-suc s m)
-
--- with one mode more: what follows it is added where it is in s
-pub step-next : (F : List ℕ) (s m : ℕ) → step (take (suc m) F) s ≡ bitOr (step (take m F) s) (cond (has s m) (getD F m 0) 0)
-unfolding step
-step-next [] s zero = rw (none (has s 0))
-step-next [] s (suc m) = rw (none (has s (suc m)))
-step-next (f ∷ fs) s zero = rw (or-zero-r, or-zero-l (cond (has s 0) f 0))
-step-next (f ∷ fs) s (suc m) = rw (step-next fs (s / 2) m, or-assoc, has-half)
 
 -- modes that nothing follows, behind the others, change nothing: a table of 32 sets does for a list that is shorter
 step-zeros : (n s : ℕ) → step (replicate n 0) s ≡ 0

@@ -2,9 +2,11 @@
 ghost use mathlib.Core.Path.{_≡_};
 ghost use Prim.Native.Nat.{_^_, _<_, _≤_};
 ghost use lib.Dec.{ltb};
+ghost use lib.ListN.{getD};
 ghost use Rattle.rules.specs.Sets.{has, shares};
 ghost use Rattle.rules.specs.Judge.{setOk};
 ghost use Rattle.theory.specs.Tests.{without, step};
+ghost use Rattle.sets.specs.Members.{IsLowest};
 
 // m is a member of s
 pub fn member(s: u32, m: u32) -> bool
@@ -47,17 +49,36 @@ pub fn is_set_of(n: u32, s: u64) -> bool
     is_within(n, s)
 }
 
-// one turn of a set of modes: all that follows a mode of s, where follow[m] is the set of the followers of mode m
-pub fn step(follow: [u32; 32], s: u32) -> u32
-    ensures { λ r. ⌜ r ≡ step follow s ⌝ }
+// the member of s that comes first
+fn lowest(s: u32) -> u32
+    requires { ⌜ 0 < s ⌝ }
+    ensures { λ r. ⌜ IsLowest s r ⌝ }
+{
+    u32::trailing_zeros(s)
+}
+
+// what the words have for mode m: nothing where they end before it
+fn word(words: &[u32], m: u32) -> u32
+    ensures { λ r. ⌜ r ≡ getD (now (words .entry)) m 0 ⌝ }
+{
+    let i = m as usize;
+    if i < words.len() {
+        return words[i];
+    }
+    0
+}
+
+// one turn of a set of modes: all that follows a mode of s, where follow[m] is the set of the followers of mode m. Only the members of s are
+// visited, the lowest first.
+pub fn step(follow: &[u32], s: u32) -> u32
+    ensures { λ r. ⌜ r ≡ step (now (follow .entry)) s ⌝ }
 {
     let mut all: u32 = 0;
-    let mut m: usize = 0;
-    while m < 32 {
-        if member(s, m as u32) {
-            all = all | follow[m];
-        }
-        m += 1;
+    let mut left = s;
+    while left != 0 {
+        let m = lowest(left);
+        all = all | word(follow, m);
+        left = without(left, 1u32 << m);
     }
     all
 }

@@ -57,8 +57,8 @@ module _ (P : ℕ → Type 0) (f : ℕ → Bool) (says : (q : ℕ) → 1 ≤ q �
   least-of : (top : ℕ) → 1 ≤ top → P top → Least P top (firstFrom f (top - 1) 1)
   least-of top h x = least-from (top - 1) 1 top (omega arith) (omega arith) x (λ p a b. absurd (omega arith))
 
--- ---- adding to a set: the number grows, or there was nothing new. For a loop that adds what follows, 2 ^ n less the set is a measure
-pub or-grows : (a b : ℕ) → (bitOr a b ≡ a → ⊥) → a < bitOr a b
+-- ---- adding to a set: the number grows, or there was nothing new. So 2 ^ n less the set falls where what follows is added
+or-grows : (a b : ℕ) → (bitOr a b ≡ a → ⊥) → a < bitOr a b
 or-grows a b n = omega (arith, or-add-and a b, and-le-r a b)
 
 or-same : (a b : ℕ) → bitOr a b ≡ a → Within b a

@@ -24,7 +24,7 @@ in-bit m s = says-eqb (bit s m) 1
 bit-zero : (s : ℕ) → bit s 0 ≡ s % 2
 bit-zero s = ap (λ (x : ℕ). x % 2) (div-one s)
 
-pub bit-suc : (s m : ℕ) → bit s (suc m) ≡ bit (s / 2) m
+bit-suc : (s m : ℕ) → bit s (suc m) ≡ bit (s / 2) m
 bit-suc s m = ap (λ (x : ℕ). x % 2) (ap (λ (x : ℕ). s / x) (pow-suc 2 m ∙ mul-comm (2 ^ m) 2) ∙ sym (div-div-eq-div-mul s 2 (2 ^ m)))
 
 differ-sum : (x y : ℕ) → differ x y + min x y * 2 ≡ x + y

@@ -1,11 +1,10 @@
 -- What the successor sets mean: bit b of the set of mode m in row n is there exactly when b follows m by exactly n turns.
 -- Assumes nothing.
-use Prim.Native.Nat.{ℕ, zero, suc, _+_, _-_, _/_, _^_, _<_}
+use Prim.Native.Nat.{ℕ, zero, suc, _+_, _-_, _^_, _<_}
 use mathlib.Core.Path.{_≡_, refl, sym, ap, ap₂, subst, _∙_}
 use mathlib.Core.Bool.{Bool, cond}
 use mathlib.Core.Logic.{_↔_, inl}
 use mathlib.Core.List.{List, [], _∷_, _++_}
-use native.Mathlib.Nat.{pow-suc}
 use native.Mathlib.Omega.{arith}
 use lib.Bits.{bitOr, and-zero-r, or-zero-l, or-zero-r, xor-zero-r}
 use lib.ListN.{length, take, getD, length-append, List·getD-append}
@@ -15,10 +14,11 @@ use Rattle.rules.specs.Table as rules
 use Rattle.theory.specs.Tests.{without, step, via, modesOf}
 use Rattle.theory.specs.Walks.{Reach, begin, turn, IsReach, Walk, Any}
 use Rattle.theory.proofs.Order.{Cmp, cmp}
-use Rattle.theory.proofs.Sets.{in-none, in-zero, in-suc, in-small, in-or}
+use Rattle.theory.proofs.Sets.{in-none, in-small, in-or}
 use Rattle.theory.proofs.Modes.{in-step, in-via, walk-map, grown}
 use Rattle.theory.proofs.Exists.{shut-reach}
 use Rattle.sets.specs.Laws.{same-members, or-assoc, step-pad}
+use Rattle.sets.specs.Members.{in-single}
 use Rattle.table.specs.Tables.{tableOf, padded, Good}
 use Rattle.table.specs.declared.Table.{Table}
 use Rattle.turns.specs.Turns.{tab, singles, nextRow, rowAfter, blockFrom}
@@ -76,22 +76,15 @@ rows-add F row k zero = let e : k ≡ k + 0 = omega arith in ap (rowAfter F row)
 rows-add F row k (suc n) =
     let e : suc (k + n) ≡ k + suc n = omega arith in ap (nextRow F) (rows-add F row k n) ∙ ap (rowAfter F row) e
 
+-- a list of the next sixteen rows is their block
+pub rows-block : (F row : List ℕ) {rows : List (List ℕ)} → rows ≡ tab (λ n. rowAfter F row (suc n)) 16 → rows ≡ blockFrom F row
+unfolding blockFrom
+rows-block F row e = e
+
 -- the row that stands in a block
 pub block-row : (F row : List ℕ) (n : ℕ) → n < 16 → getD (blockFrom F row) n [] ≡ rowAfter F row (suc n)
 unfolding blockFrom
 block-row F row n h = getD-tab (λ k. rowAfter F row (suc k)) 16 n [] h
-
--- ---- sets with one member
-in-single : (m k : ℕ) → In m (2 ^ k) ↔ m ≡ k
-in-single zero zero = (λ h. refl, λ e. in-zero 1 .1 refl)
-in-single zero (suc k) = (λ h. absurd (omega (arith, in-zero (2 ^ suc k) .0 h, pow-suc 2 k)), λ e. absurd (omega arith))
-in-single (suc m) zero = (λ h. absurd (in-none m (in-suc 1 m .0 h)), λ e. absurd (omega arith))
-in-single (suc m) (suc k) =
-    let half : 2 ^ suc k / 2 ≡ 2 ^ k = omega (arith, pow-suc 2 k) in
-    let (fwd, bwd) = in-single m k in (
-      λ h. ap suc (fwd (rw half at (in-suc (2 ^ suc k) m .0 h))),
-      λ e. let d : m ≡ k = omega arith in in-suc (2 ^ suc k) m .1 (rw half (bwd d)),
-    )
 
 -- ---- turns through any mode
 

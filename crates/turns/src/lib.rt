@@ -13,8 +13,8 @@ pub fn reached(t: Table) -> u32
     let follow = t.follow;
     let mut all = t.first;
     loop {
-        let more = all | sets::step(follow, all);
-        if more == all {
+        let more = all | sets::step(&follow, all);
+        if u32::count_ones(more) == u32::count_ones(all) {
             break;
         }
         all = more;
@@ -36,8 +36,8 @@ pub fn singles() -> [u32; 32]
 }
 
 // One turn more.
-fn next_row(follow: [u32; 32], row: [u32; 32]) -> [u32; 32]
-    ensures { λ r. ⌜ r ≡ nextRow follow row ⌝ }
+fn next_row(follow: &[u32], row: &[u32; 32]) -> [u32; 32]
+    ensures { λ r. ⌜ r ≡ nextRow (now (follow .entry)) (now (row .entry)) ⌝ }
 {
     let mut out = [0u32; 32];
     let mut m: usize = 0;
@@ -49,14 +49,14 @@ fn next_row(follow: [u32; 32], row: [u32; 32]) -> [u32; 32]
 }
 
 // The rows 1, 2, .., 16 turns after a row.
-pub fn block(follow: [u32; 32], row: [u32; 32]) -> [[u32; 32]; 16]
-    ensures { λ r. ⌜ r ≡ blockFrom follow row ⌝ }
+pub fn block(follow: &[u32], row: &[u32; 32]) -> [[u32; 32]; 16]
+    ensures { λ r. ⌜ r ≡ blockFrom (now (follow .entry)) (now (row .entry)) ⌝ }
 {
     let mut rows = [[0u32; 32]; 16];
-    let mut last = row;
+    let mut last = *row;
     let mut n: usize = 0;
     while n < 16 {
-        let next = next_row(follow, last);
+        let next = next_row(follow, &last);
         last = next;
         rows[n] = last;
         n += 1;

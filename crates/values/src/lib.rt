@@ -13,9 +13,9 @@ use table::Table;
 // The bound, raised at every distance by what is written at `end` in one of the modes `from`, until it is written over: an idle mode hides
 // nothing. The search ends where n + 1 cycles of the bound itself take until `end`, or where no mode is new: a reader in a mode that was
 // seen before asked for more then than it would now.
-fn ask_turns(t: Table, fresh: [u32; 32], written: u32, from: u32, end: u32, bound: u32) -> u32
+fn ask_turns(t: Table, fresh: &[u32; 32], written: u32, from: u32, end: u32, bound: u32) -> u32
     requires { ⌜ Good t × (end ≤ t .len) × (1 ≤ bound) × (bound ≤ t .len) ⌝ }
-    ensures { λ r. ⌜ Raised bound (TurnsFine (tableOf t) fresh written end 0 from) r ⌝ }
+    ensures { λ r. ⌜ Raised bound (TurnsFine (tableOf t) (now (fresh .entry)) written end 0 from) r ⌝ }
 {
     let follow = t.follow;
     let mut modes = from;
@@ -23,7 +23,7 @@ fn ask_turns(t: Table, fresh: [u32; 32], written: u32, from: u32, end: u32, boun
     let mut most = bound;
     let mut n: u32 = 0;
     while (n + 1) * most < end {
-        let next = sets::step(follow, modes);
+        let next = sets::step(&follow, modes);
         if sets::without(next, seen) == 0 {
             return most;
         }
@@ -44,11 +44,11 @@ fn ask_writer(
     c: u32,
     i: usize,
     written: u32,
-    fresh: [u32; 32],
+    fresh: &[u32; 32],
     bound: u32,
 ) -> u32
     requires { ⌜ Good t × (c < 32) × (i < t .count) × (1 ≤ bound) × (bound ≤ t .len)
-        × (written ≡ writers (tableOf t) c) × (fresh ≡ freshSets (tableOf t) c) ⌝ }
+        × (written ≡ writers (tableOf t) c) × (now fresh ≡ freshSets (tableOf t) c) ⌝ }
     ensures { λ r. ⌜ Raised bound (WriterFine (tableOf t) reached c i) r ⌝ }
 {
     let o = t.ops[i];
@@ -70,7 +70,7 @@ fn ask_cell(t: Table, reached: u32, c: u32, bound: u32) -> u32
     let mut most = bound;
     let mut i: usize = 0;
     while i < t.count {
-        most = ask_writer(t, reached, c, i, written, fresh, most);
+        most = ask_writer(t, reached, c, i, written, &fresh, most);
         i += 1;
     }
     most

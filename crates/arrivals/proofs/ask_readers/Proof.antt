@@ -15,11 +15,11 @@ use Rattle.arrivals.proofs.ask_readers.Statement.{statement}
 use Rattle.arrivals.proofs.ask_readers.Tie as tie
 
 abbrev Inv-loop : tie.InvT-loop
-Inv-loop modes end n bound t fresh most₀ j₀ most j =
+Inv-loop fresh modes end n bound t most₀ j₀ most j =
     (j ≤ t .count) × (t .count ≤ 32) × (most ≤ t .len) × Raised bound (Each (ReaderFine (tableOf t) fresh modes end n) j) most
 
 abbrev μ-loop : tie.MeasureT-loop
-μ-loop modes end n bound t fresh most₀ j₀ most j = t .count - j
+μ-loop fresh modes end n bound t most₀ j₀ most j = t .count - j
 
 loop-holds : tie.Need-loop-holds Inv-loop μ-loop
 loop-holds c = (omega arith, good-few _ (c .pre .0), omega arith, each-none _)
@@ -27,18 +27,18 @@ loop-holds c = (omega arith, good-few _ (c .pre .0), omega arith, each-none _)
 mul-ask-reader : tie.Need-mul-ask-reader Inv-loop μ-loop
 mul-ask-reader c = omega arith
 
-array-read-ask-reader : tie.Need-array-read-ask-reader Inv-loop μ-loop
-array-read-ask-reader c = omega arith
+element-copy-out-ask-reader : tie.Need-element-copy-out-ask-reader Inv-loop μ-loop
+element-copy-out-ask-reader c = omega arith
 
 mul-ask-reader-2 : tie.Need-mul-ask-reader-2 Inv-loop μ-loop
 mul-ask-reader-2 c = omega arith
 
-element-copy-out-ask-reader : tie.Need-element-copy-out-ask-reader Inv-loop μ-loop
-element-copy-out-ask-reader c = omega arith
+element-copy-out-ask-reader-2 : tie.Need-element-copy-out-ask-reader-2 Inv-loop μ-loop
+element-copy-out-ask-reader-2 c = omega arith
 
 ask-reader-requires : tie.Need-ask-reader-requires Inv-loop μ-loop
 ask-reader-requires c κs =
-    let i = c .before in
+    let i = c .before .before in
     let s = i .before in
     let high : s .args .t1 .len ≤ 1000 = s .pre .0 .accepted .len-high in
     (omega arith, omega (arith, good-op (s .args .t1) (s .pre .0) (i .loop .j) (omega arith) .fits), omega arith, omega arith)
@@ -51,13 +51,13 @@ loop-less c = omega arith
 
 loop-again : tie.Need-loop-again Inv-loop μ-loop
 loop-again c =
-    let i = c .before .before in
+    let i = c .before .before .before in
     let s = i .before in
     let a = s .args in
     let j = i .loop .j in
-    let x : Raised (i .loop .most) (ReaderFine (tableOf (a .t1)) (a .t2) (a .modes) (a .end) (a .n) j) (c .ask-reader .result)
+    let x : Raised (i .loop .most) (ReaderFine (tableOf (a .t1)) (a .fresh .now) (a .modes) (a .end) (a .n) j) (c .ask-reader .result)
     = subst⁻¹
-    (λ (o : Op). Raised (i .loop .most) (λ q. shares (a .modes) (getD (a .t2) j 0) ≡ true → InTime (a .end) (o .start) (a .n) q) (c .ask-reader .result))
+    (λ (o : Op). Raised (i .loop .most) (λ q. shares (a .modes) (getD (a .fresh .now) j 0) ≡ true → InTime (a .end) (o .start) (a .n) q) (c .ask-reader .result))
     (op-at (a .t1) j (omega arith))
     (c .ask-reader .ensures)
     in (
@@ -82,9 +82,9 @@ ask-readers-spec =
     μ-loop
     loop-holds
     mul-ask-reader
-    array-read-ask-reader
-    mul-ask-reader-2
     element-copy-out-ask-reader
+    mul-ask-reader-2
+    element-copy-out-ask-reader-2
     ask-reader-requires
     add-j
     loop-less

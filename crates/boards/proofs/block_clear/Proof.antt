@@ -46,11 +46,11 @@ returns c =
     (all-rest _ k 16 (l .loop .inv .1)
     (λ m h. distance-far (tableOf (s .args .t)) (s .args .reached) (s .args .q) (s .args .done + k) (c .if1 .taken) (s .args .done + m) (omega arith)))
 
-mul-row : tie.Need-mul-row Inv-loop μ-loop
-mul-row c = omega arith
+mul-distance-clear : tie.Need-mul-distance-clear Inv-loop μ-loop
+mul-distance-clear c = omega arith
 
-array-copy-out-row : tie.Need-array-copy-out-row Inv-loop μ-loop
-array-copy-out-row c = omega arith
+index-1-distance-clear : tie.Need-index-1-distance-clear Inv-loop μ-loop
+index-1-distance-clear c = omega arith
 
 distance-clear-requires : tie.Need-distance-clear-requires Inv-loop μ-loop
 distance-clear-requires c κs = search needs
@@ -58,7 +58,7 @@ distance-clear-requires c κs = search needs
 returns-2 : tie.Need-returns-2 Inv-loop μ-loop
 returns-2 c =
     let x = c .before in
-    let e1 = x .before .before in
+    let e1 = x .before .before .before in
     let l = e1 .before .before .before in
     let s = l .before in
     let k = l .loop .k in
@@ -74,7 +74,7 @@ loop-less c = omega arith
 loop-again : tie.Need-loop-again Inv-loop μ-loop
 loop-again c =
     let x = c .before in
-    let e1 = x .before .before in
+    let e1 = x .before .before .before in
     let l = e1 .before .before .before in
     let s = l .before in
     let k = l .loop .k in
@@ -98,8 +98,8 @@ block-clear-spec =
     add-shift-2
     mul-shift
     returns
-    mul-row
-    array-copy-out-row
+    mul-distance-clear
+    index-1-distance-clear
     distance-clear-requires
     returns-2
     add-k

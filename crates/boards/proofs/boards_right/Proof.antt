@@ -46,8 +46,11 @@ mul-if2 c =
     let s = c .before .before .before .before in
     record { fits = shift-small (s .args .t) (s .pre .0) _ _ (omega arith) (s .pre .3) }
 
-array-copy-out-block : tie.Need-array-copy-out-block Inv-loop μ-loop
-array-copy-out-block c = omega arith
+slice-aggregate-block : tie.Need-slice-aggregate-block Inv-loop μ-loop
+slice-aggregate-block c = search needs
+
+index-1-block : tie.Need-index-1-block Inv-loop μ-loop
+index-1-block c = omega arith
 
 block-requires : tie.Need-block-requires Inv-loop μ-loop
 block-requires c κs = search needs
@@ -57,7 +60,7 @@ loop-less c = omega arith
 
 loop-again : tie.Need-loop-again Inv-loop μ-loop
 loop-again c =
-    let e2 = c .before .before in
+    let e2 = c .before .before .before in
     let e1 = e2 .before .before in
     let l = e1 .before .before in
     let s = l .before .before in
@@ -89,7 +92,8 @@ boards-right-spec =
     add-done
     add-if2
     mul-if2
-    array-copy-out-block
+    slice-aggregate-block
+    index-1-block
     block-requires
     loop-less
     loop-again

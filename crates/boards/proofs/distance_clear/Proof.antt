@@ -22,7 +22,7 @@ abbrev μ-loop : tie.MeasureT-loop
 μ-loop row reached shift t n i₀ i = n - i
 
 loop-holds : tie.Need-loop-holds Inv-loop μ-loop
-loop-holds c = (omega arith, good-few (c .args .t1) (c .pre), all-none _)
+loop-holds c = (omega arith, good-few (c .before .args .t1) (c .before .pre), all-none _)
 
 mul-o : tie.Need-mul-o Inv-loop μ-loop
 mul-o c = omega arith
@@ -41,13 +41,13 @@ unfolding shiftFine
 returns c =
     let x = c .before in
     let l = x .before .before .before .before .before in
-    let s = l .before in
+    let s = l .before .before in
     let t = s .args .t1 in
     let i = l .loop .i in
     let h : i < t .count = omega arith in
     sym
     (all-hit _ (nops (tableOf t)) i (omega (arith, good-count t (s .pre)))
-    (op-fine t i h (s .args .row) (s .args .reached) (s .args .shift) (x .before .lapped .ensures) (x .can-follow .ensures) ∙ ap not (c .if1 .taken)))
+    (op-fine t i h (s .args .row .now) (s .args .reached) (s .args .shift) (x .before .lapped .ensures) (x .can-follow .ensures) ∙ ap not (c .if1 .taken)))
 
 add-i : tie.Need-add-i Inv-loop μ-loop
 add-i c = omega arith
@@ -59,17 +59,17 @@ loop-again : tie.Need-loop-again Inv-loop μ-loop
 loop-again c =
     let x = c .before in
     let l = x .before .before .before .before .before in
-    let s = l .before in
+    let s = l .before .before in
     let t = s .args .t1 in
     let i = l .loop .i in
     let h : i < t .count = omega arith in
-    let e = op-fine t i h (s .args .row) (s .args .reached) (s .args .shift) (x .before .lapped .ensures) (x .can-follow .ensures) ∙ ap not (c .if1 .left) in
+    let e = op-fine t i h (s .args .row .now) (s .args .reached) (s .args .shift) (x .before .lapped .ensures) (x .can-follow .ensures) ∙ ap not (c .if1 .left) in
     (omega arith, l .loop .inv .1, all-more _ i e (l .loop .inv .2))
 
 returns-2 : tie.Need-returns-2 Inv-loop μ-loop
 unfolding shiftFine
 returns-2 c =
-    let s = c .before .before in
+    let s = c .before .before .before in
     let t = s .args .t1 in
     let e : c .before .loop .i ≡ nops (tableOf t) = omega (arith, good-count t (s .pre)) in
     sym (rw e at (c .before .loop .inv .2))

@@ -10,6 +10,9 @@ use Rattle.period.proofs.boards_fit.Tie as tie
 reached-requires : tie.Need-reached-requires
 reached-requires c κs = search needs
 
+slice-aggregate-first-block : tie.Need-slice-aggregate-first-block
+slice-aggregate-first-block c = search needs
+
 first-block-requires : tie.Need-first-block-requires
 first-block-requires c κs = search needs
 
@@ -18,11 +21,11 @@ boards-right-requires c κs = search needs
 
 returns : tie.Need-returns
 returns c =
-    let a = c .before .before in
+    let a = c .before .before .before .before in
     let s = a .before in
     let said = boards-said (tableOf (s .args .t)) (s .pre .0 .accepted) (a .reached .result) (a .reached .ensures) (s .args .q) (s .pre .1) in
     (λ x. said .0 (sym (c .boards-right .ensures) ∙ x), λ y. c .boards-right .ensures ∙ said .1 y)
 
 pub boards-fit-spec : {M : Type 1} → statement M
 boards-fit-spec =
-    tie.close (tie.spec reached-requires first-block-requires boards-right-requires returns)
+    tie.close (tie.spec reached-requires slice-aggregate-first-block first-block-requires boards-right-requires returns)

@@ -12,7 +12,7 @@ block-requires : tie.Need-block-requires
 block-requires c κs = search needs
 
 returns : tie.Need-returns
-returns c = rw (c .before .singles .ensures) at (c .block .ensures)
+returns c = rw (c .before .before .singles .ensures) at (c .block .ensures)
 
 pub first-block-spec : {M : Type 1} → statement M
 first-block-spec = tie.close (tie.spec singles-requires block-requires returns)

@@ -1,67 +1,60 @@
--- `step` goes over the modes from 0 up and keeps what follows those that it has passed: one turn by the part of the table before m.
+-- `step` goes over the members of s from the lowest up: what follows those that it has passed, and what follows those that are left, is the
+-- whole turn.
 -- Assumes nothing.
-use Prim.Native.Nat.{_-_, _≤_}
-use mathlib.Core.Bool.{true, false}
-use mathlib.Core.Logic.{⊎-elim}
-use mathlib.Core.Path.{_≡_, refl, sym, _∙_}
-use native.Mathlib.Numerals.{add-one}
+use Prim.Native.Nat.{_^_, _≤_}
+use mathlib.Core.Path.{_≡_, sym, _∙_}
 use native.Mathlib.Omega.{arith}
-use lib.Bits.{or-zero-r}
-use lib.ListN.{length, take}
-use lib.Seq.{take-all}
+use lib.Bits.{bitOr, or-zero-l, or-zero-r}
 use borrow.Author.Needs.{needs}
-use Rattle.rules.specs.Sets.{has}
-use Rattle.theory.specs.Tests.{step}
-use Rattle.sets.specs.Laws.{step-next}
+use Rattle.theory.specs.Tests.{without, step}
+use Rattle.theory.proofs.Sets.{in-small}
+use Rattle.sets.specs.Members.{rest-less, rest-shl, walk-on, step-none}
 use Rattle.sets.proofs.step.Statement.{statement}
 use Rattle.sets.proofs.step.Tie as tie
 
 abbrev Inv-loop : tie.InvT-loop
-Inv-loop s follow all₀ m₀ all m = (m ≤ 32) × (all ≡ step (take m follow) s)
+Inv-loop follow s all₀ left₀ all left = (left ≤ s) × (bitOr all (step follow left) ≡ step follow s)
 
 abbrev μ-loop : tie.MeasureT-loop
-μ-loop s follow all₀ m₀ all m = 32 - m
+μ-loop follow s all₀ left₀ all left = left
 
 loop-holds : tie.Need-loop-holds Inv-loop μ-loop
-unfolding step
-loop-holds c = (omega arith, refl)
+loop-holds c = (omega arith, or-zero-l _)
 
-cast-member : tie.Need-cast-member Inv-loop μ-loop
-cast-member c = omega arith
+lowest-requires : tie.Need-lowest-requires Inv-loop μ-loop
+lowest-requires c κs = omega arith
 
-member-requires : tie.Need-member-requires Inv-loop μ-loop
-member-requires c κs = omega arith
+word-requires : tie.Need-word-requires Inv-loop μ-loop
+word-requires c κs = search needs
 
-mul-all : tie.Need-mul-all Inv-loop μ-loop
-mul-all c = omega arith
+shl-without : tie.Need-shl-without Inv-loop μ-loop
+shl-without c = in-small _ 32 _ (omega arith) (c .before .lowest .ensures .member)
 
-array-read-all : tie.Need-array-read-all Inv-loop μ-loop
-array-read-all c = omega arith
-
-add-m : tie.Need-add-m Inv-loop μ-loop
-add-m c = omega arith
+without-requires : tie.Need-without-requires Inv-loop μ-loop
+without-requires c κs = search needs
 
 loop-less : tie.Need-loop-less Inv-loop μ-loop
-loop-less c = omega arith
+loop-less c =
+    let m = c .before .before .lowest in
+    let left = c .before .before .before .before .loop .left in
+    let e : c .without .result ≡ without left (2 ^ m .result) = rest-shl left (m .result) (m .ensures .member) 32 (omega arith) (c .without .ensures) in
+    rw e (rest-less left (m .result) (m .ensures .member))
 
 loop-again : tie.Need-loop-again Inv-loop μ-loop
 loop-again c =
-    let i = c .before .before .before in
-    let s = i .before .args .s in
-    let m = i .loop .m in (
-      omega arith,
-      ⊎-elim
-          (λ w. let t : has s m ≡ true = sym (c .before .member .ensures) ∙ w .0 .taken in w .1 ∙ rw (add-one, step-next, t, i .loop .inv .1))
-          (λ w. let t : has s m ≡ false = sym (c .before .member .ensures) ∙ w .0 .left in w .1 ∙ rw (add-one, step-next, t, or-zero-r, i .loop .inv .1))
-          (c .if1 .came),
+    let m = c .before .before .lowest in
+    let i = c .before .before .before .before .loop in
+    let F = c .before .before .before .before .before .before .args .follow .now in
+    let e : c .without .result ≡ without (i .left) (2 ^ m .result) = rest-shl (i .left) (m .result) (m .ensures .member) 32 (omega arith) (c .without .ensures) in (
+      omega (arith, rest-less (i .left) (m .result) (m .ensures .member)),
+      walk-on (i .left) (m .result) (m .ensures .member) F (i .all) _ _ (c .before .word .ensures) e ∙ i .inv .1,
     )
 
 returns : tie.Need-returns Inv-loop μ-loop
 returns c =
-    let m = c .before .loop .m in
-    let e : m ≡ 32 = omega arith in
-    let l : length (c .before .before .args .t1) ≡ 32 = search needs in
-    (rw e at (c .before .loop .inv .1)) ∙ rw (take-all 32 (c .before .before .args .t1) (omega arith))
+    let i = c .before .loop in
+    let e : i .left ≡ 0 = omega arith in
+    sym (or-zero-r _) ∙ rw (e, step-none) at (i .inv .1)
 
 pub step-spec : {M : Type 1} → statement M
 step-spec =
@@ -70,11 +63,10 @@ step-spec =
     Inv-loop
     μ-loop
     loop-holds
-    cast-member
-    member-requires
-    mul-all
-    array-read-all
-    add-m
+    lowest-requires
+    word-requires
+    shl-without
+    without-requires
     loop-less
     loop-again
     returns)

@@ -7,16 +7,16 @@ use native.Mathlib.Numerals.{add-one}
 use lib.ListN.{length, take, length-set}
 use lib.Seq.{take-all, take-suc-set}
 use borrow.Author.Needs.{needs}
-use Rattle.turns.specs.Turns.{tab, rowAfter, blockFrom}
-use Rattle.turns.specs.TurnLaws.{tab-suc, row-next}
+use Rattle.turns.specs.Turns.{tab, rowAfter}
+use Rattle.turns.specs.TurnLaws.{tab-suc, row-next, rows-block}
 use Rattle.turns.proofs.block.Statement.{statement}
 use Rattle.turns.proofs.block.Tie as tie
 
 abbrev Inv-loop : tie.InvT-loop
-Inv-loop follow rows₀ last₀ n₀ rows last n = (n ≤ 16) × (length rows ≡ 16) × (last ≡ rowAfter follow last₀ n) × (take n rows ≡ tab (λ k. rowAfter follow last₀ (suc k)) n)
+Inv-loop follow row rows₀ last₀ n₀ rows last n = (n ≤ 16) × (length rows ≡ 16) × (last ≡ rowAfter follow last₀ n) × (take n rows ≡ tab (λ k. rowAfter follow last₀ (suc k)) n)
 
 abbrev μ-loop : tie.MeasureT-loop
-μ-loop follow rows₀ last₀ n₀ rows last n = 16 - n
+μ-loop follow row rows₀ last₀ n₀ rows last n = 16 - n
 
 loop-holds : tie.Need-loop-holds Inv-loop μ-loop
 unfolding tab rowAfter
@@ -39,7 +39,7 @@ loop-less c = omega arith
 
 loop-again : tie.Need-loop-again Inv-loop μ-loop
 loop-again c =
-    let i = c .before .before in
+    let i = c .before .before .before in
     let n = i .loop .n in
     let l : n < length (i .loop .rows) = omega arith in (
       omega arith,
@@ -49,8 +49,10 @@ loop-again c =
     )
 
 returns : tie.Need-returns Inv-loop μ-loop
-unfolding blockFrom
-returns c = let n = c .before .loop .n in let e : n ≡ 16 = omega arith in sym (take-all 16 (c .before .loop .rows) (omega arith)) ∙ rw e at (c .before .loop .inv .3)
+returns c =
+    let n = c .before .loop .n in
+    let e : n ≡ 16 = omega arith in
+    rows-block _ _ (sym (take-all 16 (c .before .loop .rows) (omega arith)) ∙ rw e at (c .before .loop .inv .3))
 
 pub block-spec : {M : Type 1} → statement M
 block-spec =

@@ -25,8 +25,8 @@ loop-holds c = (omega arith, refl, refl)
 mul-step : tie.Need-mul-step Inv-loop μ-loop
 mul-step c = omega arith
 
-array-read-step : tie.Need-array-read-step Inv-loop μ-loop
-array-read-step c = omega arith
+element-copy-out-step : tie.Need-element-copy-out-step Inv-loop μ-loop
+element-copy-out-step c = omega arith
 
 step-requires : tie.Need-step-requires Inv-loop μ-loop
 step-requires c κs = omega arith
@@ -45,7 +45,7 @@ loop-less c = omega arith
 
 loop-again : tie.Need-loop-again Inv-loop μ-loop
 loop-again c =
-    let i = c .before .before in
+    let i = c .before .before .before in
     let m = i .loop .m in
     let l : m < length (i .loop .out) = omega arith in
     (omega arith, simp length-set (i .loop .inv .1), rw (add-one, take-suc-set, tab-suc, c .step .ensures, i .loop .inv .2))
@@ -62,7 +62,7 @@ next-row-spec =
     μ-loop
     loop-holds
     mul-step
-    array-read-step
+    element-copy-out-step
     step-requires
     mul-out
     array-write-out

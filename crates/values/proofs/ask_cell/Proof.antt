@@ -33,7 +33,7 @@ loop-holds c = (omega arith, omega arith, omega arith, each-none _)
 
 ask-writer-requires : tie.Need-ask-writer-requires Inv-loop μ-loop
 ask-writer-requires c κs =
-    let i = c .before .before in
+    let i = c .before .before .before in
     let f = i .before in
     let w = f .before in
     let s = w .before in (
@@ -47,14 +47,14 @@ ask-writer-requires c κs =
     )
 
 add-i : tie.Need-add-i Inv-loop μ-loop
-add-i c = omega (arith, good-few _ (c .before .before .before .before .before .before .pre .0))
+add-i c = omega (arith, good-few _ (c .before .before .before .before .before .before .before .pre .0))
 
 loop-less : tie.Need-loop-less Inv-loop μ-loop
 loop-less c = omega arith
 
 loop-again : tie.Need-loop-again Inv-loop μ-loop
 loop-again c =
-    let i = c .before .before .before in
+    let i = c .before .before .before .before in
     let s = i .before .before .before in
     let a = s .args in
     let x = c .ask-writer .ensures in (

@@ -31,6 +31,9 @@ add-loop c = omega arith
 mul-loop : tie.Need-mul-loop Inv-loop μ-loop
 mul-loop c = omega (arith, cycles-fit (c .loop .n) (c .loop .most) (omega arith) (omega arith))
 
+slice-aggregate-step : tie.Need-slice-aggregate-step Inv-loop μ-loop
+slice-aggregate-step c = search needs
+
 step-requires : tie.Need-step-requires Inv-loop μ-loop
 step-requires c κs = search needs
 
@@ -39,7 +42,7 @@ without-requires c κs = search needs
 
 returns : tie.Need-returns Inv-loop μ-loop
 returns c =
-    let i = c .before .before .before .before in
+    let i = c .before .before .before .before .before in
     let s = i .before .before in
     let t = s .args .t in
     let e : c .before .before .step .result ≡ step (tableOf t .follow) (i .loop .modes)
@@ -49,7 +52,7 @@ returns c =
 
 ask-readers-requires : tie.Need-ask-readers-requires Inv-loop μ-loop
 ask-readers-requires c κs =
-    let i = c .before .before .before .before in
+    let i = c .before .before .before .before .before in
     let s = i .before .before in
     (s .pre .0, s .pre .1, omega arith, i .loop .inv .2)
 
@@ -60,18 +63,18 @@ add-n : tie.Need-add-n Inv-loop μ-loop
 add-n c = omega arith
 
 loop-less : tie.Need-loop-less Inv-loop μ-loop
-loop-less c = let i = c .before .before .before .before .before .before .loop in omega (arith, mul-le-mul-left (i .n + 1) (i .inv .1))
+loop-less c = let i = c .before .before .before .before .before .before .before .loop in omega (arith, mul-le-mul-left (i .n + 1) (i .inv .1))
 
 loop-again : tie.Need-loop-again Inv-loop μ-loop
 loop-again c =
     let r = c .before in
     let x = r .before .before .before in
-    let i = x .before .before in
+    let i = x .before .before .before in
     let s = i .before .before in
     let a = s .args in
     let next = step (tableOf (a .t) .follow) (i .loop .modes) in
     let e : x .step .result ≡ next = x .step .ensures ∙ good-step (a .t) (s .pre .0) (i .loop .modes) in
-    let y : Raised (i .loop .most) (Each (ReaderFine (tableOf (a .t)) (a .fresh) next (a .end) (i .loop .n)) (nops (tableOf (a .t)))) (r .ask-readers .result)
+    let y : Raised (i .loop .most) (Each (ReaderFine (tableOf (a .t)) (a .fresh .now) next (a .end) (i .loop .n)) (nops (tableOf (a .t)))) (r .ask-readers .result)
     = rw e at (r .ask-readers .ensures)
     in (
       omega (arith, mul-le-mul-left (i .loop .n + 1) (i .loop .inv .1)),
@@ -92,6 +95,7 @@ ask-turns-spec =
     loop-holds
     add-loop
     mul-loop
+    slice-aggregate-step
     step-requires
     without-requires
     returns
