@@ -3,7 +3,7 @@
 use crate::judge::Numbers;
 
 #[rustfmt::skip]
-mod c {
+pub mod c {
     extern "C" {
         pub fn trevozhil_judge(s: *const u8, s_len: usize, a: *mut u64, b: *mut u64) -> u32;
 

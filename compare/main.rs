@@ -5,6 +5,11 @@
 //!   runs --count N --seed S      all runs of small tables, laid out, against the static library and against walks
 //!   stats --count N --seed S     how often each refusal is met
 //!   speed --count N --seed S     the time of the library's period search on largest tables, and of a simple planner's
+//!   stack --count N --seed S -- PROGRAM ..
+//!                                the smallest stack on which each function of the library answers, on largest tables;
+//!                                PROGRAM .. is how this comparison is started, once for each try
+//!   on-stack NAME BYTES --count N --seed S
+//!                                one try: a function with so many bytes of stack
 //!   bytes                        commented hexadecimal text on standard input to bytes
 //!   text                         bytes on standard input to what the program fold prints for them
 //!   ask WORD..                   words, and bytes on standard input, to what fold prints for them
@@ -30,6 +35,7 @@ mod runs;
 mod selftest;
 mod simple;
 mod speed;
+mod stack;
 mod stats;
 mod walks;
 mod words;
@@ -83,6 +89,8 @@ fn command(name: &str, args: &[String]) -> bool {
         ("bench", _) => examples::bench_command(args),
         ("bytewise", _) => bytewise::bytewise_command(args),
         ("words", _) => asking::words_command(args),
+        ("stack", _) => stack::stack_command(args),
+        ("on-stack", _) => stack::on_stack_command(args),
         _ => drawn(name, args),
     }
 }
@@ -91,6 +99,8 @@ fn usage() -> bool {
     println!("library | runs | stats | speed, each with --count N --seed S");
     println!("selftest | bytes | text | plan | ask WORD.. | examples FILE.. | bench FILE..");
     println!("bytewise PROGRAM ARGUMENT.. | words FILE.. -- PROGRAM ARGUMENT..");
+    println!("stack --count N --seed S -- PROGRAM ARGUMENT..");
+    println!("on-stack NAME BYTES --count N --seed S");
     false
 }
 

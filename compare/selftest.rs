@@ -10,6 +10,7 @@ use crate::hex::bytes_in;
 use crate::judge::{bytes_of, judge, judge_numbers, numbers_of, push_number, write_table};
 use crate::judge::{Numbers, Refusal};
 use crate::runs::{taken_from, Run};
+use crate::stack;
 use crate::walks::right;
 use crate::words::{decimal, printed, LIST};
 
@@ -149,12 +150,13 @@ fn margins(tally: &mut Tally) {
 fn sizes(tally: &mut Tally) {
     let header = include_str!("../include/trevozhil.h");
     for (name, size) in [
-        ("TABLE", LONGEST_TABLE),
-        ("REPLY", LONGEST_REPLY),
-        ("STARTS", LONGEST_STARTS),
-        ("TEXT", LONGEST_TEXT),
+        ("LONGEST_TABLE", LONGEST_TABLE),
+        ("LONGEST_REPLY", LONGEST_REPLY),
+        ("LONGEST_STARTS", LONGEST_STARTS),
+        ("LONGEST_TEXT", LONGEST_TEXT),
+        ("STACK", stack::RESERVE),
     ] {
-        let line = format!("#define TREVOZHIL_LONGEST_{} {}", name, size);
+        let line = format!("#define TREVOZHIL_{} {}", name, size);
         tally.check(&line, header.lines().any(|named| named == line));
     }
 }
@@ -624,6 +626,11 @@ fn keeps_bytes(tally: &mut Tally, seed: &mut Seed) {
     tally.check("unfold keeps", out[kept..].iter().all(|byte| *byte == 0x33));
 }
 
+/// With little stack the library answers as everywhere.
+fn little_stack(tally: &mut Tally) {
+    tally.check("little stack", stack::reserve_serves());
+}
+
 /// All checks.
 fn selftest() -> Tally {
     let mut tally = Tally {
@@ -661,6 +668,8 @@ fn selftest() -> Tally {
     for _ in 0..50 {
         within_sizes(&mut tally, &mut seed);
     }
+    // last, since an emulator is slower once a thread was started
+    little_stack(&mut tally);
     tally
 }
 

@@ -80,7 +80,7 @@ fn short_op(start: u64, board: u64, reads: u64, writes: u64, upper: bool) -> Op 
 /// A largest table on which the search is slow: every q below p is wrong, nearly
 /// all of them only by the last mode and the last cell, and each other cell is
 /// carried along by half of the modes.
-fn hard_table() -> Table {
+pub fn hard_table() -> Table {
     let low = 0x7fff_ffff;
     let mut ops = vec![short_op(0, 0, 0, low, false), short_op(0, 0, 0, 0, true)];
     for board in 1..15 {

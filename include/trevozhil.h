@@ -59,6 +59,13 @@ extern "C" {
 #define TREVOZHIL_LONGEST_TEXT 780
 
 /*
+ * So many bytes of stack below the caller serve each function. That is measured, with this library as it is built for
+ * x86-64, and not proved: its own functions take up to 10,432, the rest is for the C library's memcpy and memset and for
+ * a loader that binds them at the first call. Signal handlers come on top.
+ */
+#define TREVOZHIL_STACK 16384
+
+/*
  * Judges a table's bytes: the s_len bytes at s.
  * Answers 0 where the table is accepted, or a refusal from 1 to 7. Writes nothing but *a and *b.
  */
