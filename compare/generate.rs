@@ -492,6 +492,146 @@ pub fn touching(seed: &mut Seed) -> Vec<u8> {
     bytes_of(&table)
 }
 
+// ---- tables to measure with ---------------------------------------------
+
+/// Accepted: a largest one with every operation's reads and writes taken away. Boards alone decide; the table has its
+/// 32 cells, and a simple planner looks through them.
+pub fn nothing_read_or_written(seed: &mut Seed) -> Table {
+    let mut table = largest(seed);
+    for op in &mut table.ops {
+        (op.reads, op.writes) = (0, 0);
+    }
+    table
+}
+
+/// Accepted, as the largest ones, but without cells. Boards alone decide, and a simple planner has no cells to look
+/// through.
+pub fn no_cells(seed: &mut Seed) -> Table {
+    let shape = Shape {
+        cells: 0,
+        ..largest_shape(seed)
+    };
+    either_table(seed, &shape)
+}
+
+/// Accepted, of this length, with so many operations and modes; all else as in the largest ones, durations in
+/// proportion to the length. Where mending left operations out, another table is drawn.
+pub fn sized(seed: &mut Seed, p: u64, ops: u64, modes: u64) -> Table {
+    loop {
+        let largest = largest_shape(seed);
+        let shape = Shape {
+            p,
+            ops,
+            modes,
+            longest: (largest.longest * p / largest.p).max(1),
+            ..largest
+        };
+        let table = either_table(seed, &shape);
+        if table.ops.len() as u64 == ops {
+            return table;
+        }
+    }
+}
+
+// ---- rings of modes to measure with -------------------------------------
+
+/// In a ring every mode comes again after so many cycles.
+const RING: u64 = 32;
+
+/// Each mode is followed by the next one only.
+fn ring_followers() -> Vec<u64> {
+    (0..RING).map(|mode| 1 << ((mode + 1) % RING)).collect()
+}
+
+/// One tick on the first board, anywhere in the table, in one mode.
+fn ring_tick(seed: &mut Seed) -> Op {
+    Op {
+        start: seed.below(1000),
+        dur: 1,
+        boards: 1,
+        reads: 0,
+        writes: 0,
+        modes: 1 << seed.below(RING),
+    }
+}
+
+/// The family on which the library takes most time, of those tried: accepted, p 1000, 32 modes each followed by the
+/// next one only, 32 operations on one board, each at a drawn tick in a drawn mode; all are drawn again until none clash.
+/// The periods are small: at q each operation has one of RING * q places, and q is right where no two have the same one.
+pub fn ring_drawn(seed: &mut Seed) -> Table {
+    let mut table = Table {
+        len: 1000,
+        boards: 16,
+        cells: 32,
+        modes: RING,
+        first: 1 << seed.below(RING),
+        follow: ring_followers(),
+        ops: Vec::new(),
+    };
+    loop {
+        table.ops = (0..32).map(|_| ring_tick(seed)).collect();
+        if judge_pairs(&table).is_ok() {
+            return table;
+        }
+    }
+}
+
+/// The places of an operation of the ring among RING periods of q, for a cycle in this mode: the ticks in which it holds
+/// the board, and holds it again after every RING cycles.
+fn ring_places(op: &Op, mode: u64, q: u64) -> impl Iterator<Item = usize> {
+    (op.start..op.end()).map(move |tick| ((tick + mode * q) % (RING * q)) as usize)
+}
+
+/// One or two ticks on the only board, in the first or the last hundred ticks of the table, in eight of the modes in
+/// which its places are free; none where there are fewer.
+fn ring_op(seed: &mut Seed, q: u64, taken: &[bool]) -> Option<Op> {
+    let late = seed.once_in(2);
+    let mut op = Op {
+        start: seed.below(99) + if late { 900 } else { 0 },
+        dur: seed.between(1, 2),
+        boards: 1,
+        reads: 0,
+        writes: 0,
+        modes: 0,
+    };
+    for mode in 0..RING {
+        let free = ring_places(&op, mode, q).all(|place| !taken[place]);
+        op.modes |= u64::from(free) << mode;
+    }
+    while op.modes.count_ones() > 8 {
+        op.modes &= !(1 << seed.below(RING));
+    }
+    (op.modes.count_ones() == 8).then(|| op)
+}
+
+/// The family on which the ratio of a simple planner's time to the library's is least, of those tried: accepted, p 1000,
+/// 32 modes each followed by the next one only, 32 short operations on one board, in eight modes each. A q from 20 to 40
+/// is drawn first, and the operations are placed so that q is right; smaller periods hardly ever are. That they are wrong
+/// a simple planner sees at once, and at q it finds no pair for which it has to step the modes. A search that goes by
+/// distances n has many of them, up to n·q < p, and at each one every late operation with every early one.
+pub fn ring_placed(seed: &mut Seed) -> Table {
+    let q = seed.between(20, 40);
+    let mut taken = vec![false; (RING * q) as usize];
+    let mut ops = Vec::new();
+    while ops.len() < 32 {
+        if let Some(op) = ring_op(seed, q, &taken) {
+            for mode in (0..RING).filter(|mode| op.runs_in(*mode)) {
+                ring_places(&op, mode, q).for_each(|place| taken[place] = true);
+            }
+            ops.push(op);
+        }
+    }
+    Table {
+        len: 1000,
+        boards: 1,
+        cells: 0,
+        modes: RING,
+        first: 1 << seed.below(RING),
+        follow: ring_followers(),
+        ops,
+    }
+}
+
 // ---- numbers just inside and just outside their ranges ------------------
 
 /// A set at the edge of its count: empty, the highest member, one beyond.

@@ -4,7 +4,10 @@
 //!   selftest                     the planner's own tests
 //!   runs --count N --seed S      all runs of small tables, laid out, against the static library and against walks
 //!   stats --count N --seed S     how often each refusal is met
-//!   speed --count N --seed S     the time of the library's period search on largest tables, and of a simple planner's
+//!   speed --count N --seed S --on TEXT --picture FILE
+//!                                the time of the library's period search and of a simple planner's, on N tables of each
+//!                                family, and how both grow; TEXT says what it is measured on; where all answers agree
+//!                                the growth is drawn in FILE
 //!   stack --count N --seed S -- PROGRAM ..
 //!                                the smallest stack on which each function of the library answers, on largest tables;
 //!                                PROGRAM .. is how this comparison is started, once for each try
@@ -31,12 +34,14 @@ mod judge;
 mod kinds;
 mod laid;
 mod library;
+mod picture;
 mod runs;
 mod selftest;
 mod simple;
 mod speed;
 mod stack;
 mod stats;
+mod times;
 mod walks;
 mod words;
 
@@ -74,7 +79,6 @@ fn drawn(name: &str, args: &[String]) -> bool {
         "library" => against::against(count.unwrap_or(LIBRARY_COUNT), seed),
         "runs" => laid::laid_command(count.unwrap_or(RUNS_COUNT), seed),
         "stats" => stats::stats_command(count.unwrap_or(1000), seed),
-        "speed" => speed::speed_command(count.unwrap_or(200), seed),
         _ => usage(),
     }
 }
@@ -89,6 +93,7 @@ fn command(name: &str, args: &[String]) -> bool {
         ("bench", _) => examples::bench_command(args),
         ("bytewise", _) => bytewise::bytewise_command(args),
         ("words", _) => asking::words_command(args),
+        ("speed", _) => speed::speed_command(args),
         ("stack", _) => stack::stack_command(args),
         ("on-stack", _) => stack::on_stack_command(args),
         _ => drawn(name, args),
@@ -96,9 +101,10 @@ fn command(name: &str, args: &[String]) -> bool {
 }
 
 fn usage() -> bool {
-    println!("library | runs | stats | speed, each with --count N --seed S");
+    println!("library | runs | stats, each with --count N --seed S");
     println!("selftest | bytes | text | plan | ask WORD.. | examples FILE.. | bench FILE..");
     println!("bytewise PROGRAM ARGUMENT.. | words FILE.. -- PROGRAM ARGUMENT..");
+    println!("speed --count N --seed S --on TEXT --picture FILE");
     println!("stack --count N --seed S -- PROGRAM ARGUMENT..");
     println!("on-stack NAME BYTES --count N --seed S");
     false

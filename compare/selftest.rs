@@ -8,10 +8,12 @@ use crate::examples::K1;
 use crate::generate::{self, Seed};
 use crate::hex::bytes_in;
 use crate::judge::{bytes_of, judge, judge_numbers, numbers_of, push_number, write_table};
-use crate::judge::{Numbers, Refusal};
+use crate::judge::{Numbers, Refusal, Table};
+use crate::picture::{escaped, svg, tick, Panel, Point};
 use crate::runs::{taken_from, Run};
 use crate::stack;
-use crate::walks::right;
+use crate::times::{readable, timed, worked, Times, ROUNDS};
+use crate::walks::{period, right};
 use crate::words::{decimal, printed, LIST};
 
 /// How many checks passed and failed.
@@ -626,9 +628,202 @@ fn keeps_bytes(tally: &mut Tally, seed: &mut Seed) {
     tally.check("unfold keeps", out[kept..].iter().all(|byte| *byte == 0x33));
 }
 
+// ---- what is measured with ----------------------------------------------
+
+/// A table is accepted and has these counts: length, boards, cells, modes, operations.
+fn check_counts(tally: &mut Tally, name: &str, table: &Table, counts: [u64; 5]) {
+    let ops = table.ops.len() as u64;
+    let has = [table.len, table.boards, table.cells, table.modes, ops];
+    tally.check(name, has == counts);
+    tally.check(name, judge(&bytes_of(table)).as_ref() == Ok(table));
+}
+
+/// Each mode is followed by the next one only.
+fn is_ring(table: &Table) -> bool {
+    let mut follow = table.follow.iter().enumerate();
+    follow.all(|(mode, set)| *set == 1 << ((mode + 1) % 32))
+}
+
+/// No operation reads or writes a cell.
+fn uses_no_cell(table: &Table) -> bool {
+    table.ops.iter().all(|op| op.reads | op.writes == 0)
+}
+
+/// Both families over a ring: the drawn one has each operation in one tick and one mode, and some in either half.
+fn measured_rings(tally: &mut Tally, seed: &mut Seed) {
+    let (drawn, placed) = (generate::ring_drawn(seed), generate::ring_placed(seed));
+    check_counts(tally, "ring, drawn", &drawn, [1000, 16, 32, 32, 32]);
+    check_counts(tally, "ring, placed", &placed, [1000, 1, 0, 32, 32]);
+    for table in [&drawn, &placed] {
+        tally.check("a ring", is_ring(table) && table.first.count_ones() == 1);
+        tally.check("one board", table.ops.iter().all(|op| op.boards == 1));
+        tally.check("no cell of the ring", uses_no_cell(table));
+        tally.check("a small period", period(table) <= 40);
+    }
+    let ops = &drawn.ops;
+    tally.check("one tick", ops.iter().all(|op| op.dur == 1));
+    tally.check("one mode", ops.iter().all(|op| op.modes.count_ones() == 1));
+    let early = ops.iter().filter(|op| op.start < 500).count();
+    tally.check("in either half", early > 0 && early < ops.len());
+    tally.check("short steps", placed.ops.iter().all(|op| op.dur <= 2));
+}
+
+/// The largest have every count at its highest. Where nothing is read or written the tables are these in all else; the
+/// others have no cells.
+fn measured_boards(tally: &mut Tally, seed: &mut Seed) {
+    let largest = generate::largest(&mut seed.clone());
+    check_counts(tally, "largest", &largest, [1000, 16, 32, 32, 32]);
+    tally.check("cells are used", !uses_no_cell(&largest));
+    let table = generate::nothing_read_or_written(seed);
+    check_counts(tally, "unused cells", &table, [1000, 16, 32, 32, 32]);
+    let turns = table.first == largest.first && table.follow == largest.follow;
+    let same = table.ops.iter().zip(&largest.ops).all(|(one, two)| {
+        (one.start, one.dur, one.boards, one.modes) == (two.start, two.dur, two.boards, two.modes)
+    });
+    tally.check("the same in all else", turns && same);
+    tally.check("nothing read or written", uses_no_cell(&table));
+    let table = generate::no_cells(seed);
+    check_counts(tally, "no cells", &table, [1000, 16, 0, 32, 32]);
+}
+
+/// The tables for growth have the size that is asked for.
+fn measured_sizes(tally: &mut Tally, seed: &mut Seed) {
+    for (p, ops, modes) in [(125, 32, 32), (1000, 4, 32), (1000, 32, 1)] {
+        let table = generate::sized(seed, p, ops, modes);
+        check_counts(tally, "sized", &table, [p, 16, 32, modes, ops]);
+        let longest = table.ops.iter().map(|op| op.dur).max();
+        tally.check("durations in proportion", longest <= Some(200 * p / 1000));
+    }
+}
+
+fn times_of(seconds: &[f64]) -> Times {
+    let mut times = Times::default();
+    seconds.iter().for_each(|time| times.push(*time));
+    times
+}
+
+/// Goes on until the processor has worked so many seconds for it.
+fn work(seconds: f64) {
+    let begin = worked();
+    while worked() - begin < seconds {}
+}
+
+/// Calls that take so many seconds each, the first of them a quarter: how many were made, the answer and the time.
+fn timed_work(each: f64) -> (u64, u64, f64) {
+    let mut calls = 0;
+    let (answer, seconds) = timed(|| {
+        calls += 1;
+        work(if calls == 1 { each / 4.0 } else { each });
+        calls
+    });
+    (calls, answer, seconds)
+}
+
+/// The time is that of one call: not less, though the first one takes less, and not that of all calls of a round. Three
+/// times, since whatever comes between makes the first call longer, and the rounds then have fewer calls.
+fn timing(tally: &mut Tally) {
+    let each = 20e-6;
+    let mut most = 0;
+    for _ in 0..3 {
+        let (calls, answer, seconds) = timed_work(each);
+        tally.check("the last answer", answer == calls);
+        tally.check("the first call is not counted", seconds >= each);
+        tally.check("the time of one call", seconds < 5.0 * each);
+        most = most.max(calls);
+    }
+    tally.check("many calls", most > u64::from(10 * ROUNDS));
+}
+
+/// Mean, median of odd and of even counts, worst; how times are printed.
+fn times(tally: &mut Tally) {
+    let (odd, even) = (times_of(&[3.0, 8.0, 1.0]), times_of(&[3.0, 8.0, 1.0, 4.0]));
+    tally.check("mean", odd.mean() == 4.0 && even.mean() == 4.0);
+    tally.check("median", odd.median() == 3.0 && even.median() == 3.5);
+    tally.check("median of one", times_of(&[7.0]).median() == 7.0);
+    tally.check("worst", odd.worst() == 8.0 && even.worst() == 8.0);
+    let ratio = even.least_ratio(&times_of(&[1.0, 4.0, 1.0, 8.0]));
+    tally.check("least ratio", ratio == 0.5);
+    for (seconds, said) in [
+        (0.000_000_25, "0.25 µs"),
+        (0.000_023_44, "23.4 µs"),
+        (0.000_5, "500 µs"),
+        (0.019_12, "19.1 ms"),
+        (2.5, "2500 ms"),
+    ] {
+        tally.check(said, readable(seconds) == said);
+    }
+}
+
+/// The picture has a mark for each time, beside those that name them; text in it is no tag.
+fn pictures(tally: &mut Tally) {
+    let point = |size, library, simple| Point {
+        size,
+        library,
+        simple,
+    };
+    let points = vec![point(1, 2e-6, 3e-4), point(8, 4e-6, 0.02)];
+    let name = "sizes";
+    let text = svg(&[Panel { name, points }], &[String::from("1 < 2 & 3")]);
+    tally.check("round marks", text.matches("<circle").count() == 1 + 2);
+    tally.check("escaped", text.contains(">1 &lt; 2 &amp; 3<"));
+    tally.check("also reads", text.contains("also reads and judges"));
+    for part in ["1 µs", "100 ms", "× 150", "sizes"] {
+        tally.check(part, text.contains(&format!(">{}<", part)));
+    }
+    tally.check(
+        "ends",
+        text.starts_with("<svg ") && text.ends_with("</svg>\n"),
+    );
+    tally.check("tags", escaped("<a>&") == "&lt;a&gt;&amp;");
+    let ticks = [-7, -6, -4, -3, -1, 0, 1].map(tick);
+    let said = ["0.1 µs", "1 µs", "100 µs", "1 ms", "100 ms", "1 s", "10 s"];
+    tally.check("ticks", ticks == said);
+}
+
 /// With little stack the library answers as everywhere.
 fn little_stack(tally: &mut Tally) {
     tally.check("little stack", stack::reserve_serves());
+}
+
+/// The checks that draw nothing.
+const FIXED: [fn(&mut Tally); 20] = [
+    hexadecimal,
+    bench_k1,
+    bench_answers,
+    margins,
+    sizes,
+    largest_example,
+    untyped_turn,
+    points_of_order,
+    points_of_size,
+    points_of_pairs,
+    points_of_reach,
+    points_of_numbers,
+    points_of_large_numbers,
+    questions,
+    decimals,
+    words,
+    cuts,
+    timing,
+    times,
+    pictures,
+];
+
+/// The checks on drawn inputs.
+fn drawn(tally: &mut Tally, seed: &mut Seed) {
+    for _ in 0..2000 {
+        round_trips(tally, seed);
+        as_if_written(tally, seed);
+        keeps_bytes(tally, seed);
+    }
+    for _ in 0..50 {
+        within_sizes(tally, seed);
+    }
+    for _ in 0..5 {
+        measured_rings(tally, seed);
+        measured_boards(tally, seed);
+        measured_sizes(tally, seed);
+    }
 }
 
 /// All checks.
@@ -637,37 +832,10 @@ fn selftest() -> Tally {
         passed: 0,
         failed: 0,
     };
-    let fixed = [
-        hexadecimal,
-        bench_k1,
-        bench_answers,
-        margins,
-        sizes,
-        largest_example,
-        untyped_turn,
-        points_of_order,
-        points_of_size,
-        points_of_pairs,
-        points_of_reach,
-        points_of_numbers,
-        points_of_large_numbers,
-        questions,
-        decimals,
-        words,
-        cuts,
-    ];
-    for part in fixed {
+    for part in FIXED {
         part(&mut tally);
     }
-    let mut seed = Seed::new(20);
-    for _ in 0..2000 {
-        round_trips(&mut tally, &mut seed);
-        as_if_written(&mut tally, &mut seed);
-        keeps_bytes(&mut tally, &mut seed);
-    }
-    for _ in 0..50 {
-        within_sizes(&mut tally, &mut seed);
-    }
+    drawn(&mut tally, &mut Seed::new(20));
     // last, since an emulator is slower once a thread was started
     little_stack(&mut tally);
     tally

@@ -1,68 +1,340 @@
-//! The time of the library's period search, beside that of a simple planner.
+//! The time of the library's period search, beside that of a simple planner, on the same tables in the same program.
+//!
+//! All timing comes before the first thread: under an emulator every access is slower once a program has started one. The
+//! test with little stack, which needs threads, comes last.
 
 use crate::generate::{self, Seed};
 use crate::judge::{bytes_of, Op, Table};
 use crate::library;
+use crate::options;
+use crate::picture::{self, Panel, Point};
 use crate::simple;
-use std::time::Instant;
+use crate::stack;
+use crate::times::{ratio, readable, timed, Times, MOST_CALLS, ROUND, ROUNDS};
+use std::io::Write;
 
-/// The mean and the worst of some times.
-#[derive(Default)]
-struct Times {
+// ---- what is asked ------------------------------------------------------
+
+/// How many tables of each family are drawn and from which seed, what it is measured on, and the picture's file.
+struct Asked {
     count: u64,
-    total: f64,
-    worst: f64,
+    seed: u64,
+    on: String,
+    picture: Option<String>,
 }
 
-impl Times {
-    fn take(&mut self, call: impl FnOnce() -> u64) -> u64 {
-        let begin = Instant::now();
-        let answer = call();
-        let time = begin.elapsed().as_secs_f64();
-        self.count += 1;
-        self.total += time;
-        self.worst = self.worst.max(time);
-        answer
+impl Asked {
+    /// Growth has more families, so they are smaller.
+    fn growth_count(&self) -> u64 {
+        (self.count / 4).max(1)
     }
 
-    fn print(&self, name: &str) {
-        let mean = self.total / self.count.max(1) as f64;
-        println!("{:<8} mean {:.6} s, worst {:.6} s", name, mean, self.worst);
+    /// Tables of a family; each begins with the seed, so that none depends on those before it.
+    fn tables(&self, count: u64, draw: impl Fn(&mut Seed) -> Table) -> Vec<Table> {
+        let mut seed = Seed::new(self.seed);
+        (0..count).map(|_| draw(&mut seed)).collect()
     }
 }
 
-/// The library's period of a table's bytes, on a stack of 64 KiB.
-fn period_on_small_stack(mut bytes: Vec<u8>) -> u64 {
-    let thread = std::thread::Builder::new().stack_size(64 * 1024);
-    let work = thread.spawn(move || library::period(&mut bytes).a);
-    work.expect("a thread").join().expect("an answer")
+/// The arguments in pairs; none where they are not understood.
+fn asked(args: &[String]) -> Option<Asked> {
+    let (mut on, mut picture, mut numbers) = (None, None, Vec::new());
+    for pair in args.chunks(2) {
+        match (pair[0].as_str(), pair.get(1)) {
+            ("--on", Some(text)) => on = Some(text.clone()),
+            ("--picture", Some(file)) => picture = Some(file.clone()),
+            _ => numbers.extend_from_slice(pair),
+        }
+    }
+    let (count, seed) = options(&numbers)?;
+    Some(Asked {
+        count: count.unwrap_or(200).max(1),
+        seed: seed.unwrap_or(1),
+        on: on.unwrap_or_else(|| String::from("a computer that was not named")),
+        picture,
+    })
 }
 
-/// The time of the period search on drawn largest tables (p 1000, 32 operations, 32 modes) and on one that is hard: the
-/// library, and the simple planner, which must agree. Each table is also planned on a stack of 64 KiB.
-pub fn speed_command(count: u64, mut seed: Seed) -> bool {
-    let (mut quick, mut simple) = (Times::default(), Times::default());
-    let mut spread = [0; 11];
-    let mut same = true;
-    let tables = (0..count).map(|_| generate::largest(&mut seed));
-    let tables: Vec<Table> = tables.chain(std::iter::once(hard_table())).collect();
-    for table in &tables {
+// ---- both on the same tables --------------------------------------------
+
+/// What both took on some tables, and what they answered.
+#[derive(Default)]
+struct Measured {
+    library: Times,
+    simple: Times,
+    periods: Vec<u64>,
+    differ: bool,
+}
+
+/// The library's period of a table's bytes; 0, which no period is, where they are refused.
+fn library_period(bytes: &mut [u8]) -> u64 {
+    let said = library::period(bytes);
+    if said.number == 0 {
+        said.a
+    } else {
+        0
+    }
+}
+
+/// Both on each table in turn. The library is handed bytes, which it also reads and judges; the simple planner is handed
+/// what they say.
+fn measure(tables: &[Table]) -> Measured {
+    let mut measured = Measured::default();
+    for table in tables {
         let mut bytes = bytes_of(table);
-        let q = quick.take(|| library::period(&mut bytes).a);
-        same &= q == simple.take(|| simple::period(table));
-        same &= q == period_on_small_stack(bytes);
-        spread[(q / 100) as usize] += 1;
+        let (q, seconds) = timed(|| library_period(&mut bytes));
+        measured.library.push(seconds);
+        let (simple_q, seconds) = timed(|| simple::period(table));
+        measured.simple.push(seconds);
+        measured.periods.push(q);
+        measured.differ |= q != simple_q;
     }
-    println!("{} tables, periods by hundreds {:?}", tables.len(), spread);
-    quick.print("library");
-    simple.print("simple");
-    println!(
-        "the library is {:.1} times as quick",
-        simple.total / quick.total
-    );
-    println!("{}", if same { "all agree" } else { "they differ" });
-    same
+    measured
 }
+
+impl Measured {
+    /// The smallest, the middle and the largest period.
+    fn print_periods(&self) {
+        let mut all = self.periods.clone();
+        all.sort_unstable();
+        let (last, middle) = (all.len() - 1, all.len() / 2);
+        println!(
+            "  periods {} to {}, half of them from {} on",
+            all[0], all[last], all[middle]
+        );
+    }
+
+    fn print(&self) {
+        let (quick, slow) = (&self.library, &self.simple);
+        println!(
+            "            {:>10} {:>10} {:>10}",
+            "mean", "median", "worst"
+        );
+        for (name, times) in [("library", quick), ("simple", slow)] {
+            let all = [times.mean(), times.median(), times.worst()].map(readable);
+            println!("  {:<9} {:>10} {:>10} {:>10}", name, all[0], all[1], all[2]);
+        }
+        println!(
+            "  simple / library: {} of the means, {} of the medians, {} on the table where it is least",
+            ratio(slow.mean() / quick.mean()),
+            ratio(slow.median() / quick.median()),
+            ratio(slow.least_ratio(quick)),
+        );
+    }
+
+    fn point(&self, size: u64) -> Point {
+        Point {
+            size,
+            library: self.library.mean(),
+            simple: self.simple.mean(),
+        }
+    }
+}
+
+// ---- the families -------------------------------------------------------
+
+/// Its name, what its tables are, and how one is drawn.
+type Family = (&'static str, &'static str, fn(&mut Seed) -> Table);
+
+/// What is said of a family at its generator is longer.
+const FAMILIES: [Family; 5] = [
+    (
+        "largest",
+        "p 1000, 32 operations, 32 modes, 16 boards, 32 cells (generate::largest)",
+        generate::largest,
+    ),
+    (
+        "nothing read or written",
+        "the same tables, with each operation's reads and writes taken away (generate::nothing_read_or_written)",
+        generate::nothing_read_or_written,
+    ),
+    (
+        "no cells",
+        "drawn as the largest, without cells, so that the simple planner has none to look through (generate::no_cells)",
+        generate::no_cells,
+    ),
+    (
+        "ring, drawn",
+        "most time of those tried: small periods over a ring of 32 modes, 32 operations drawn (generate::ring_drawn)",
+        generate::ring_drawn,
+    ),
+    (
+        "ring, placed",
+        "least ratio of those tried: small periods over a ring of 32 modes, 32 operations placed (generate::ring_placed)",
+        generate::ring_placed,
+    ),
+];
+
+/// One family, and whether both agree on it.
+fn family(asked: &Asked, (name, what, draw): Family) -> bool {
+    let measured = measure(&asked.tables(asked.count, draw));
+    println!("\n{}: {}", name, what);
+    println!("  {} tables, seed {}", asked.count, asked.seed);
+    measured.print_periods();
+    measured.print();
+    !measured.differ
+}
+
+/// The one table that is not drawn.
+fn hard() -> bool {
+    let measured = measure(&[hard_table()]);
+    let (quick, slow) = (measured.library.mean(), measured.simple.mean());
+    println!(
+        "\nthe hard table (speed::hard_table): library {}, simple {}, simple / library {}",
+        readable(quick),
+        readable(slow),
+        ratio(slow / quick)
+    );
+    !measured.differ
+}
+
+// ---- growth -------------------------------------------------------------
+
+/// What grows, over which sizes, and how a table of one size is drawn.
+type Growth = (&'static str, &'static [u64], fn(&mut Seed, u64) -> Table);
+
+const GROWTHS: [Growth; 3] = [
+    ("p", &[125, 250, 500, 1000], |seed, p| {
+        generate::sized(seed, p, 32, 32)
+    }),
+    ("operations", &[4, 8, 16, 32], |seed, ops| {
+        generate::sized(seed, 1000, ops, 32)
+    }),
+    ("modes", &[1, 8, 32], |seed, modes| {
+        generate::sized(seed, 1000, 32, modes)
+    }),
+];
+
+/// A line for each size; the panel, and whether both agree.
+fn growth(asked: &Asked, (name, sizes, draw): Growth) -> (Panel, bool) {
+    let (mut points, mut same) = (Vec::new(), true);
+    println!(
+        "  {:<12} {:>10} {:>10} {:>8}",
+        name, "library", "simple", "ratio"
+    );
+    for size in sizes {
+        let tables = asked.tables(asked.growth_count(), |seed| draw(seed, *size));
+        let measured = measure(&tables);
+        same &= !measured.differ;
+        let point = measured.point(*size);
+        println!(
+            "  {:<12} {:>10} {:>10} {:>8}",
+            size,
+            readable(point.library),
+            readable(point.simple),
+            ratio(point.simple / point.library)
+        );
+        points.push(point);
+    }
+    (Panel { name, points }, same)
+}
+
+/// All three, and the panels of the picture.
+fn all_growth(asked: &Asked) -> (Vec<Panel>, bool) {
+    println!(
+        "\ngrowth: all else as in the largest, durations in proportion to p (generate::sized)"
+    );
+    println!(
+        "  means, {} tables each, seed {}",
+        asked.growth_count(),
+        asked.seed
+    );
+    let (mut panels, mut same) = (Vec::new(), true);
+    for one in GROWTHS {
+        let (panel, agree) = growth(asked, one);
+        panels.push(panel);
+        same &= agree;
+    }
+    (panels, same)
+}
+
+// ---- the command --------------------------------------------------------
+
+/// Each table of the first family gets the same period on a thread with what the header says to reserve. A search that
+/// needs more ends the process, so the size is printed first.
+fn small_stack_serves(asked: &Asked) -> bool {
+    print!(
+        "on a thread with {} bytes of stack below the call: ",
+        stack::RESERVE
+    );
+    std::io::stdout().flush().expect("standard output");
+    let tables = asked.tables(asked.count, FAMILIES[0].2);
+    let good = stack::period_in_reserve(&tables);
+    let said = if good { "the same" } else { "other" };
+    println!("{} periods of the largest", said);
+    good
+}
+
+/// What the times mean.
+fn print_rule(asked: &Asked) {
+    let built = if cfg!(debug_assertions) {
+        "not optimised"
+    } else {
+        "optimised"
+    };
+    println!("the period search of the library, beside that of a simple planner (simple.rs)");
+    println!("measured on {}", asked.on);
+    println!("compiled for {}, {}", std::env::consts::ARCH, built);
+    println!(
+        "a time is the processor's for one call, the least of {} rounds; a round has as many calls as take {},",
+        ROUNDS,
+        readable(ROUND)
+    );
+    println!(
+        "at least 1 and at most {}, by one call before the rounds, which is not counted; the same for both",
+        MOST_CALLS
+    );
+    println!("the library also reads and judges the table's bytes, the simple planner does not");
+}
+
+/// The file of the picture, with what it shows; true where there is nothing to write or it was written.
+fn write_picture(asked: &Asked, panels: &[Panel]) -> bool {
+    let file = match &asked.picture {
+        Some(file) => file,
+        None => return true,
+    };
+    let drawn = format!(
+        "Means of {} tables at each size, seed {}; all else as in the largest tables.",
+        asked.growth_count(),
+        asked.seed
+    );
+    let text = picture::svg(panels, &[drawn, format!("Measured on {}.", asked.on)]);
+    match std::fs::write(file, text) {
+        Ok(()) => println!("the growth is drawn in {}", file),
+        Err(error) => {
+            println!("{}: {}", file, error);
+            return false;
+        }
+    }
+    true
+}
+
+/// Times of all families and of growth, then the test with little stack. True where every answer is the same; only then
+/// the picture is written.
+pub fn speed_command(args: &[String]) -> bool {
+    let asked = match asked(args) {
+        Some(asked) => asked,
+        None => {
+            println!("speed --count N --seed S --on TEXT --picture FILE");
+            return false;
+        }
+    };
+    print_rule(&asked);
+    let mut same = true;
+    for one in FAMILIES {
+        same &= family(&asked, one);
+    }
+    same &= hard();
+    let (panels, agree) = all_growth(&asked);
+    same &= agree;
+    println!();
+    println!("{}", if same { "all agree" } else { "they differ" });
+    let written = same && write_picture(&asked, &panels);
+    let served = small_stack_serves(&asked);
+    written && served
+}
+
+// ---- the table that is not drawn ----------------------------------------
 
 /// One tick on a board, in half of the modes.
 fn short_op(start: u64, board: u64, reads: u64, writes: u64, upper: bool) -> Op {
@@ -77,9 +349,8 @@ fn short_op(start: u64, board: u64, reads: u64, writes: u64, upper: bool) -> Op 
     }
 }
 
-/// A largest table on which the search is slow: every q below p is wrong, nearly
-/// all of them only by the last mode and the last cell, and each other cell is
-/// carried along by half of the modes.
+/// A table with every count at its highest: every q below p is wrong, nearly all of them only by the last mode and the
+/// last cell, and each other cell is carried along by half of the modes.
 pub fn hard_table() -> Table {
     let low = 0x7fff_ffff;
     let mut ops = vec![short_op(0, 0, 0, low, false), short_op(0, 0, 0, 0, true)];

@@ -276,7 +276,7 @@ fn near_table() -> Table {
     }
 }
 
-/// Drawn largest tables, the one on which the search is slow, and the one with the smallest period.
+/// Drawn largest tables, the one in which every period below p is wrong, and the one with the smallest period.
 fn tables(count: u64, mut seed: Seed) -> Vec<Table> {
     let drawn = (0..count).map(|_| generate::largest(&mut seed));
     drawn.chain([hard_table(), near_table()]).collect()
@@ -324,6 +324,12 @@ pub fn reserve_serves() -> bool {
     }
     println!();
     good
+}
+
+/// Each table has the same period with just what the header says to reserve; where it needs more the process ends. That
+/// is not left to the size of a thread: where so little is asked for, std::thread takes more.
+pub fn period_in_reserve(tables: &[Table]) -> bool {
+    serves("period", RESERVE, tables)
 }
 
 /// One try: a name, a size, and what `stack` was told to draw. True where it serves.
