@@ -1,13 +1,13 @@
 // The operations of a table handed over as numbers, six for each, judged one after the other.
 ghost use mathlib.Core.Path.{_≡_};
-ghost use Prim.Native.Nat.{_+_, _≤_};
+ghost use Prim.Native.Nat.{_+_, _-_, _≤_};
 ghost use mathlib.Core.Bool.{true};
 ghost use lib.ListN.{length, drop};
 ghost use Rattle.rules.specs.Judge.{opOfNumbers, opOk};
 ghost use Rattle.fields.specs.Verdicts.{tested};
 ghost use Rattle.table.specs.Tables.{JudgedAs, tableOf, opIn};
-ghost use Rattle.ranges.specs.Ranges.{wideOf};
-ghost use Rattle.handed_ops.specs.HandedOps.{opThere, countsOf, nextTest, handedOps, SmallCounts, Bare};
+ghost use Rattle.ranges.specs.Ranges.{wideOf, counted};
+ghost use Rattle.handed_ops.specs.HandedOps.{opThere, opTest, handedOps, SmallCounts, Bare};
 use fields::Refusal;
 use fields::Verdict;
 use ranges::Wide;
@@ -30,12 +30,20 @@ fn wide_at(ops: &[u64], at: usize) -> Wide
     }
 }
 
-// The tests of the operation that stands there and would be written at `place`, behind the operations of t.
-fn op_test(t: Table, ops: &[u64], at: usize, place: usize) -> Verdict
-    requires { ⌜ (at ≤ length (now ops)) × (t .count ≤ 32) × SmallCounts (t .boards) (t .cells) (t .modes) ⌝ }
-    ensures { λ r. ⌜ tested r ≡ nextTest t (drop at (now (ops .entry))) place ⌝ }
+// The tests of the operation that stands there and would be written at `place`, behind `count` others, in a table of this length and these counts.
+fn op_test(
+    count: usize,
+    len: u32,
+    boards: u32,
+    cells: u32,
+    modes: u32,
+    ops: &[u64],
+    at: usize,
+    place: usize,
+) -> Verdict
+    requires { ⌜ (at ≤ length (now ops)) × (count ≤ 32) × SmallCounts boards cells modes ⌝ }
+    ensures { λ r. ⌜ tested r ≡ opTest (counted len boards cells modes) (drop at (now (ops .entry))) (32 - count) place ⌝ }
 {
-    let count = t.count;
     if 32 <= count {
         return Verdict::Refused(Refusal::Many(place));
     }
@@ -43,22 +51,22 @@ fn op_test(t: Table, ops: &[u64], at: usize, place: usize) -> Verdict
         return Verdict::Refused(Refusal::Short(place));
     }
     let w = wide_at(ops, at);
-    if !ranges::wide_ok(t.len, t.boards, t.cells, t.modes, w) {
+    if !ranges::wide_ok(len, boards, cells, modes, w) {
         return Verdict::Refused(Refusal::Range(place));
     }
     Verdict::Accepted
 }
 
 // The operation that stands there, when it has passed.
-fn op_at(t: Table, ops: &[u64], at: usize) -> Op
-    requires { ⌜ (at + 6 ≤ length (now ops)) × SmallCounts (t .boards) (t .cells) (t .modes) × (opOk (countsOf t) (opOfNumbers (drop at (now ops))) ≡ true) ⌝ }
+fn op_at(len: u32, boards: u32, cells: u32, modes: u32, ops: &[u64], at: usize) -> Op
+    requires { ⌜ (at + 6 ≤ length (now ops)) × SmallCounts boards cells modes × (opOk (counted len boards cells modes) (opOfNumbers (drop at (now ops))) ≡ true) ⌝ }
     ensures { λ r. ⌜ r ≡ opIn (opOfNumbers (drop at (now (ops .entry)))) ⌝ }
 {
     let w = wide_at(ops, at);
-    ranges::narrow(t.len, t.boards, t.cells, t.modes, w)
+    ranges::narrow(len, boards, cells, modes, w)
 }
 
-// All the operations, judged one after the other and put behind what stands before them.
+// All the operations, judged one after the other and put behind what stands before them. Each is stored where it belongs: the table is not copied for it.
 pub fn take_ops(head: Table, ops: &[u64]) -> Judged
     requires { ⌜ Bare head × SmallCounts (head .boards) (head .cells) (head .modes) ⌝ }
     ensures { λ r. ⌜ JudgedAs (handedOps (tableOf head) (now (ops .entry))) r ⌝ }
@@ -67,15 +75,14 @@ pub fn take_ops(head: Table, ops: &[u64]) -> Judged
     let mut at: usize = 0;
     let mut place = table::ops_place(head.modes);
     while at < ops.len() {
-        let v = op_test(t, ops, at, place);
-        match v {
-            Verdict::Refused(q) => {
-                return table::deny(q);
-            }
-            Verdict::Accepted => {}
+        let k = t.count;
+        let v = op_test(k, t.len, t.boards, t.cells, t.modes, ops, at, place);
+        if let Verdict::Refused(q) = v {
+            return table::deny(q);
         }
-        let o = op_at(t, ops, at);
-        t = table::with_op(t, o);
+        let o = op_at(t.len, t.boards, t.cells, t.modes, ops, at);
+        t.ops[k] = o;
+        t.count = k + 1;
         at += 6;
         place += 21;
     }

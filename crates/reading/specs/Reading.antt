@@ -1,6 +1,6 @@
 -- The verdict on a table's bytes without CLASH and RACE, and on one operation's field.
 -- Assumes nothing.
-use Prim.Native.Nat.{ℕ}
+use Prim.Native.Nat.{ℕ, _-_}
 use mathlib.Core.List.{List}
 use Rattle.rules.specs.Table.{Op, Table}
 use Rattle.rules.specs.Verdicts.{Verdict, accepted, _then_, onwards}
@@ -8,12 +8,18 @@ use Rattle.rules.specs.Bytes.{opAt}
 use Rattle.rules.specs.Judge.{repeatTest, opOk, headOf, withOps, opsPlace, headTest, opsFrom}
 use Rattle.fields.specs.Verdicts.{refusalOf}
 use Rattle.table.specs.Tables.{opOf}
+use Rattle.table.specs.declared.Table as code
+use Rattle.ranges.specs.Ranges.{counted}
 use Rattle.reading.specs.declared.Next.{Next}
 use Rattle.reading.specs.declared.Next.the-variants.{Here, Bad}
 
 -- one operation's field, when `left` more may come, with the operation
 unfoldable pub opVerdict : Table → List ℕ → ℕ → ℕ → Verdict Op
 opVerdict T s left at = repeatTest s at left 4 18 (opOk T (opAt s at)) then accepted (opAt s at)
+
+-- the same by the length and the counts of the code's table, which holds the operations before this one
+abbrev pub nextVerdict : code.Table → List ℕ → ℕ → Verdict Op
+nextVerdict t s at = opVerdict (counted (t .len) (t .boards) (t .cells) (t .modes)) s (32 - t .count) at
 
 -- the code's answer to it
 abbrev pub nextOf : Next → Verdict Op

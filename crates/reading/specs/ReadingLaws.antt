@@ -20,18 +20,16 @@ use Rattle.fields.specs.Fields.{repeatOf}
 use Rattle.fields.specs.FieldLaws.{repeat-split, repeat-whole, from-next, ranged-no}
 use Rattle.table.specs.declared.Op.{Op}
 use Rattle.table.specs.declared.Table.{Table}
-use Rattle.table.specs.Tables.{opOf, tableOf, tableIn, withOp, JudgedAs}
-use Rattle.ranges.specs.Ranges.{counted}
+use Rattle.table.specs.Tables.{opOf, tableIn, withOp, JudgedAs}
 use Rattle.table.specs.TableLaws.{with-op-in}
 use Rattle.table.specs.JudgedLaws.{granted}
-use Rattle.reading.specs.Reading.{opVerdict, opsVerdict}
+use Rattle.reading.specs.Reading.{opVerdict, nextVerdict, opsVerdict}
 use Rattle.heads.specs.HeadLaws.{HeadFits}
 
 -- ---- one operation
 
--- the ranges of an operation ask only for the table's length and counts
-pub op-judged : (T : rules.Table) {w o : rules.Op} {b : Bool} → b ≡ opOk (counted (T .len) (T .boards) (T .cells) (T .modes)) w → w ≡ o → opOk T o ≡ b
-unfolding opOk
+-- what was judged of the numbers read is so of the operation that has them
+pub op-judged : (T : rules.Table) {w o : rules.Op} {b : Bool} → b ≡ opOk T w → w ≡ o → opOk T o ≡ b
 op-judged T e h = sym (e ∙ ap (opOk T) h)
 
 module _ (T : rules.Table) (s : List ℕ) (left at : ℕ) where
@@ -88,6 +86,12 @@ pub record SoFar (s : List ℕ) (t : Table) (at : ℕ) : Type 0 where
   pub held : t ≡ tableIn (withOps (headOf s) ops)
   pub rest : opsFrom (headOf s) s 32 (opsPlace (headOf s .modes)) ≡ mores ops (opsFrom (headOf s) s (32 - length ops) at)
 
+-- the field at a place is whole, the table has a place for its operation, and with that the reading stands behind the field
+pub record More (s : List ℕ) (t : Table) (at : ℕ) (o : Op) : Type 0 where
+  pub whole : at + 21 ≤ length s
+  pub some : t .count < 32
+  pub so : SoFar s (withOp t o) (at + 21)
+
 -- at first nothing is read
 module _ (s : List ℕ) (t : Table) (e : t ≡ tableIn (headOf s)) where
   head-modes : t .modes ≡ num8 s 10
@@ -112,20 +116,20 @@ module _ {s : List ℕ} {t : Table} {at : ℕ} (so : SoFar s t at) where
       (omega arith, omega arith, omega arith, omega arith)
 
   -- so the next field is judged by the table as it is by the head
-  so-same : opVerdict (tableOf t) s (32 - t .count) at ≡ opVerdict (headOf s) s (32 - length (so .ops)) at
+  so-same : nextVerdict t s at ≡ opVerdict (headOf s) s (32 - length (so .ops)) at
   unfolding opVerdict opOk
-  so-same = ap (λ (u : Table). opVerdict (tableOf u) s (32 - u .count) at) (so .held)
+  so-same = ap (λ (u : Table). nextVerdict u s at) (so .held)
 
   -- a field that is refused
-  pub so-bad : (r : Refusal) → at < length s → refusalOf r ≡ opVerdict (tableOf t) s (32 - t .count) at → opsVerdict s ≡ refusalOf r
+  pub so-bad : (r : Refusal) → at < length s → refusalOf r ≡ nextVerdict t s at → opsVerdict s ≡ refusalOf r
   unfolding opsVerdict mores
   so-bad r h e =
       let next = ops-next (headOf s) s (32 - length (so .ops)) at h ∙ onwards-refusal r _ (sym (e ∙ so-same)) in
       onwards-refusal r _ (so .rest ∙ onwards-refusal r _ next)
 
   -- one more operation
-  pub so-more : (o : Op) → at < length s → accepted (opOf o) ≡ opVerdict (tableOf t) s (32 - t .count) at
-      → (at + 21 ≤ length s) × (t .count < 32) × SoFar s (withOp t o) (at + 21)
+  pub so-more : (o : Op) → at < length s → accepted (opOf o) ≡ nextVerdict t s at
+      → More s t at o
   unfolding opVerdict
   so-more o h e =
       let H = headOf s in
@@ -135,10 +139,11 @@ module _ {s : List ℕ} {t : Table} {at : ℕ} (so : SoFar s t at) where
       let count : t .count ≡ length os = ap (λ (u : Table). u .count) (so .held) in
       let few : length os < 32 = omega arith in
       let longer = length-append os (opOf o ∷ []) in
-      let left : 32 - length os - 1 ≡ 32 - length (os ++ (opOf o ∷ [])) = omega (arith, longer) in (
-        omega arith,
-        omega arith,
-        record {
+      let left : 32 - length os - 1 ≡ 32 - length (os ++ (opOf o ∷ [])) = omega (arith, longer) in
+      record {
+        whole = omega arith;
+        some = omega arith;
+        so = record {
           ops = os ++ (opOf o ∷ []);
           few = omega (arith, longer);
           held = ap (λ (u : Table). withOp u o) (so .held) ∙ with-op-in H os (opOf o) few;
@@ -147,8 +152,8 @@ module _ {s : List ℕ} {t : Table} {at : ℕ} (so : SoFar s t at) where
               ∙ ap (mores os) (ops-next H s (32 - length os) at h ∙ onwards-accepts _ here)
               ∙ mores-more os (opOf o) _
               ∙ ap (λ (n : ℕ). mores (os ++ (opOf o ∷ [])) (opsFrom H s n (at + 21))) left;
-        },
-      )
+        };
+      }
 
   -- the end of the input
   pub so-end : length s ≤ at → JudgedAs (opsVerdict s) (record { verdict = Accepted; table = t })

@@ -1,12 +1,12 @@
 // A table's bytes, read field by field in document 01's order, and then judged for CLASH and RACE.
 ghost use mathlib.Core.Path.{_≡_};
-ghost use Prim.Native.Nat.{_+_, _-_, _<_, _≤_};
+ghost use Prim.Native.Nat.{_+_, _<_, _≤_};
 ghost use lib.ListN.{length};
 ghost use Rattle.rules.specs.Verdicts.{accepted};
 ghost use Rattle.rules.specs.Bytes.{opAt};
 ghost use Rattle.rules.specs.Judge.{headTest, judge};
-ghost use Rattle.table.specs.Tables.{tableOf, JudgedAs};
-ghost use Rattle.ranges.specs.Ranges.{wideOf};
+ghost use Rattle.table.specs.Tables.{JudgedAs};
+ghost use Rattle.ranges.specs.Ranges.{wideOf, counted};
 ghost use Rattle.reading.specs.Reading.{nextOf, opVerdict, opsVerdict, fieldsVerdict};
 use fields::Refusal;
 use fields::Verdict;
@@ -38,26 +38,23 @@ fn read_op(s: &[u8], at: usize) -> Wide
     }
 }
 
-// The field at a place inside the input, behind the operations that the table has.
-fn next_op(s: &[u8], at: usize, t: Table) -> Next
-    requires { ⌜ (at < length (now s)) × (t .count ≤ 32) × (t .boards ≤ 32) × (t .cells ≤ 32) × (t .modes ≤ 32) ⌝ }
-    ensures { λ r. ⌜ nextOf r ≡ opVerdict (tableOf t) (now (s .entry)) (32 - t .count) at ⌝ }
+// The field at a place inside the input, when `left` more operations may come, in a table of this length and these counts.
+fn next_op(s: &[u8], at: usize, left: usize, len: u32, boards: u32, cells: u32, modes: u32) -> Next
+    requires { ⌜ (at < length (now s)) × (boards ≤ 32) × (cells ≤ 32) × (modes ≤ 32) ⌝ }
+    ensures { λ r. ⌜ nextOf r ≡ opVerdict (counted len boards cells modes) (now (s .entry)) left at ⌝ }
 {
-    let left = 32 - t.count;
     let v = reader::repeated_at(s, at, left, 4, 18);
-    match v {
-        Verdict::Refused(r) => Next::Bad(r),
-        Verdict::Accepted => {
-            let w = read_op(s, at);
-            if !ranges::wide_ok(t.len, t.boards, t.cells, t.modes, w) {
-                return Next::Bad(Refusal::Range(at));
-            }
-            Next::Here(ranges::narrow(t.len, t.boards, t.cells, t.modes, w))
-        }
+    if let Verdict::Refused(r) = v {
+        return Next::Bad(r);
     }
+    let w = read_op(s, at);
+    if !ranges::wide_ok(len, boards, cells, modes, w) {
+        return Next::Bad(Refusal::Range(at));
+    }
+    Next::Here(ranges::narrow(len, boards, cells, modes, w))
 }
 
-// The operations up to the end of the input, behind a head that is judged.
+// The operations up to the end of the input, behind a head that is judged. Each is stored where it belongs: the table is not copied for it.
 fn read_ops(s: &[u8]) -> Judged
     requires { ⌜ headTest (now s) ≡ accepted tt ⌝ }
     ensures { λ r. ⌜ JudgedAs (opsVerdict (now (s .entry))) r ⌝ }
@@ -65,13 +62,15 @@ fn read_ops(s: &[u8]) -> Judged
     let mut t = heads::read_head(s);
     let mut at = table::ops_place(t.modes);
     while at < s.len() {
-        let next = next_op(s, at, t);
+        let k = t.count;
+        let next = next_op(s, at, 32 - k, t.len, t.boards, t.cells, t.modes);
         match next {
             Next::Bad(r) => {
                 return table::deny(r);
             }
             Next::Here(o) => {
-                t = table::with_op(t, o);
+                t.ops[k] = o;
+                t.count = k + 1;
             }
         }
         at += 21;
@@ -89,10 +88,10 @@ fn read_fields(s: &[u8]) -> Judged
     ensures { λ r. ⌜ JudgedAs (fieldsVerdict (now (s .entry))) r ⌝ }
 {
     let v = heads::head_test(s);
-    match v {
-        Verdict::Refused(r) => table::deny(r),
-        Verdict::Accepted => read_ops(s),
+    if let Verdict::Refused(r) = v {
+        return table::deny(r);
     }
+    read_ops(s)
 }
 
 // The table that the bytes hold, or the first refusal of all.

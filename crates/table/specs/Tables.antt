@@ -86,7 +86,7 @@ noTable =
       count = 0;
     }
 
--- one operation more
+-- one operation more: what a store of o at the table's count, and one added to the count, make of t
 abbrev pub withOp : Table → Op → Table
 withOp t o =
     record {

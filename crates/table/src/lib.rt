@@ -1,10 +1,9 @@
 // A table as the code hands it around, by value, its dates and its places.
 ghost use mathlib.Core.Path.{_≡_};
-ghost use Prim.Native.Nat.{_<_};
 ghost use Rattle.rules.specs.Table.{endOf, heldTo};
 ghost use Rattle.rules.specs.Judge.{opsPlace};
 ghost use Rattle.fields.specs.Verdicts.{refusalOf};
-ghost use Rattle.table.specs.Tables.{noTable, withOp, opOf, JudgedAs};
+ghost use Rattle.table.specs.Tables.{noTable, opOf, JudgedAs};
 use fields::Refusal;
 use fields::Verdict;
 
@@ -59,18 +58,6 @@ pub fn empty() -> Table
         ops,
         count: 0,
     }
-}
-
-// One operation more.
-pub fn with_op(t: Table, o: Op) -> Table
-    requires { ⌜ t .count < 32 ⌝ }
-    ensures { λ r. ⌜ r ≡ withOp t o ⌝ }
-{
-    let mut next = t;
-    let at = t.count;
-    next.ops[at] = o;
-    next.count = at + 1;
-    next
 }
 
 // A refusal, with the empty table.

@@ -8,7 +8,8 @@ use denote.Ref.{now}
 use borrow.Author.Needs.{needs}
 use Rattle.fields.specs.Verdicts.{tested}
 use Rattle.table.specs.Tables.{tableOf}
-use Rattle.handed_ops.specs.OpsLaws.{op-ready, Taken, taken-none, taken-small, taken-end, taken-bad, taken-more}
+use Rattle.handed_ops.specs.HandedOps.{countsOf}
+use Rattle.handed_ops.specs.OpsLaws.{Ready, op-ready, Taken, taken-none, taken-small, taken-end, taken-bad, taken-more}
 use Rattle.handed_ops.proofs.take_ops.Statement.{statement}
 use Rattle.handed_ops.proofs.take_ops.Tie as tie
 
@@ -48,51 +49,43 @@ returns c =
 enum-told : tie.Need-enum-told Inv-loop μ-loop
 enum-told c = search needs
 
+-- what is known of an operation that passes
+ready : (c : tie.After-enum-told Inv-loop μ-loop)
+    → let i = c .before .before .before .before in
+    Ready (countsOf (i .loop .t)) (now (i .before .before .before .args .ops)) (i .loop .at) (i .loop .t .count)
+ready c =
+    let o = c .before .before in
+    op-ready _ _ _ _ (o .before .before .loop .place) (sym (o .op-test .ensures) ∙ ap tested (c .enum-told .given .1))
+
 op-at-requires : tie.Need-op-at-requires Inv-loop μ-loop
 op-at-requires c κs =
-    let o = c .before .before in
-    let i = o .before .before in
-    let a = i .before .before .before in
-    let is = op-ready _ (now (a .args .ops)) (i .loop .at) (i .loop .t .count) (i .loop .place) (sym (o .op-test .ensures) ∙ ap tested (c .enum-told .given .1)) in
-    (is .whole, taken-small _ _ (i .loop .inv) (a .pre .1) .1, is .ranges)
+    let i = c .before .before .before .before in
+    (ready c .whole, taken-small _ _ (i .loop .inv) (i .before .before .before .pre .1) .1, ready c .ranges)
 
-with-op-requires : tie.Need-with-op-requires Inv-loop μ-loop
-with-op-requires c κs =
-    let e = c .before in
-    let o = e .before .before in
-    let i = o .before .before in
-    let a = i .before .before .before in
-    op-ready _ (now (a .args .ops)) (i .loop .at) (i .loop .t .count) (i .loop .place) (sym (o .op-test .ensures) ∙ ap tested (e .enum-told .given .1)) .some
+mul-o : tie.Need-mul-o Inv-loop μ-loop
+mul-o c = omega (arith, ready (c .before) .some)
+
+element-set-from-o : tie.Need-element-set-from-o Inv-loop μ-loop
+element-set-from-o c = ready (c .before) .some
+
+add-t : tie.Need-add-t Inv-loop μ-loop
+add-t c = omega (arith, ready (c .before) .some)
 
 add-at : tie.Need-add-at Inv-loop μ-loop
-add-at c =
-    let e = c .before .before in
-    let o = e .before .before in
-    let i = o .before .before in
-    let a = i .before .before .before in
-    let is = op-ready _ (now (a .args .ops)) (i .loop .at) (i .loop .t .count) (i .loop .place) (sym (o .op-test .ensures) ∙ ap tested (e .enum-told .given .1)) in
-    let long = a .good .1 .0 in
-    omega arith
+add-at c = omega (arith, ready (c .before) .whole, c .before .before .before .before .before .before .before .before .good .1 .0)
 
 add-place : tie.Need-add-place Inv-loop μ-loop
 add-place c = omega arith
 
 loop-less : tie.Need-loop-less Inv-loop μ-loop
-loop-less c =
-    let e = c .before .before in
-    let o = e .before .before in
-    let i = o .before .before in
-    let a = i .before .before .before in
-    let is = op-ready _ (now (a .args .ops)) (i .loop .at) (i .loop .t .count) (i .loop .place) (sym (o .op-test .ensures) ∙ ap tested (e .enum-told .given .1)) in
-    omega arith
+loop-less c = omega (arith, ready (c .before) .whole)
 
 loop-again : tie.Need-loop-again Inv-loop μ-loop
 loop-again c =
-    let e = c .before .before in
+    let e = c .before in
     let o = e .before .before in
     let i = o .before .before in
-    let h : i .loop .at < length (now (i .before .before .before .args .ops)) = omega arith in
-    taken-more _ _ (i .loop .inv) h (sym (o .op-test .ensures) ∙ ap tested (e .enum-told .given .1)) (c .with-op .ensures ∙ rw (c .before .op-at .ensures))
+    taken-more _ _ (i .loop .inv) (o .before .loop-test .taken) (sym (o .op-test .ensures) ∙ ap tested (e .enum-told .given .1)) (rw (c .op-at .ensures))
 
 returns-2 : tie.Need-returns-2 Inv-loop μ-loop
 returns-2 c = taken-end _ _ (c .before .loop .inv) (omega arith)
@@ -111,7 +104,9 @@ take-ops-spec =
     returns
     enum-told
     op-at-requires
-    with-op-requires
+    mul-o
+    element-set-from-o
+    add-t
     add-at
     add-place
     loop-less

@@ -18,18 +18,18 @@ enum-known-v c = search needs
 deny-requires : tie.Need-deny-requires
 deny-requires c κs = search needs
 
-enum-told : tie.Need-enum-told
-enum-told c = search needs
-
-read-ops-requires : tie.Need-read-ops-requires
-read-ops-requires c κs = let h = c .before .before in sym (passed-as (h .head-test .ensures) (c .enum-told .given .1))
-
 returns : tie.Need-returns
 unfolding fieldsVerdict
 returns c =
     let v = c .before .before in
     let h = v .before .before in
     rw (then-refusal (v .v .given .0 .0) (opsVerdict (now (h .before .before .args .s))) (sym (refused-as (h .head-test .ensures) (v .v .given .1)))) (c .deny .ensures)
+
+enum-told : tie.Need-enum-told
+enum-told c = search needs
+
+read-ops-requires : tie.Need-read-ops-requires
+read-ops-requires c κs = let h = c .before .before in sym (passed-as (h .head-test .ensures) (c .enum-told .given .1))
 
 returns-2 : tie.Need-returns-2
 unfolding fieldsVerdict
@@ -45,7 +45,7 @@ read-fields-spec =
     head-test-requires
     enum-known-v
     deny-requires
+    returns
     enum-told
     read-ops-requires
-    returns
     returns-2)

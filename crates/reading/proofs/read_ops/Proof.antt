@@ -8,7 +8,7 @@ use lib.ListN.{length}
 use borrow.Author.Needs.{needs}
 use Rattle.reading.specs.Reading.{nextOf}
 use Rattle.heads.specs.HeadLaws.{head-fits}
-use Rattle.reading.specs.ReadingLaws.{SoFar, so-none, so-fits, so-bad, so-more, so-end}
+use Rattle.reading.specs.ReadingLaws.{SoFar, More, so-none, so-fits, so-bad, so-more, so-end}
 use Rattle.reading.proofs.read_ops.Statement.{statement}
 use Rattle.reading.proofs.read_ops.Tie as tie
 
@@ -27,12 +27,18 @@ ops-place-requires c κs = search needs
 loop-holds : tie.Need-loop-holds Inv-loop μ-loop
 loop-holds c = rw (c .ops-place .ensures) (so-none _ _ (c .before .read-head .ensures))
 
+sub-next-op : tie.Need-sub-next-op Inv-loop μ-loop
+sub-next-op c =
+    let i = c .before in
+    let a = i .before .before .before .before in
+    omega (arith, so-fits (i .loop .inv) (head-fits (now (a .args .s)) (a .pre)) .0)
+
 next-op-requires : tie.Need-next-op-requires Inv-loop μ-loop
 next-op-requires c κs =
     let i = c .before in
     let a = i .before .before .before .before in
     let fits = so-fits (i .loop .inv) (head-fits (now (a .args .s)) (a .pre)) in
-    (c .loop-test .taken, fits .0, fits .1, fits .2, fits .3)
+    (c .loop-test .taken, fits .1, fits .2, fits .3)
 
 enum-known-next : tie.Need-enum-known-next Inv-loop μ-loop
 enum-known-next c = search needs
@@ -49,37 +55,32 @@ returns c =
 enum-known-next-2 : tie.Need-enum-known-next-2 Inv-loop μ-loop
 enum-known-next-2 c = search needs
 
-with-op-requires : tie.Need-with-op-requires Inv-loop μ-loop
-with-op-requires c κs =
+-- an operation that passes: its field is whole, there is a place for it, and the table that holds it is so far right
+passed : (c : tie.After-known-told2 Inv-loop μ-loop)
+    → let i = c .before .before .before .before .before in
+    More (now (i .before .before .before .before .args .s)) (i .loop .t) (i .loop .at) (c .before .next2 .given .0 .0)
+passed c =
     let n = c .before in
     let f = n .before .before in
-    let i = f .before .before in
-    let so = so-more (i .loop .inv) (n .next2 .given .0 .0) (f .before .loop-test .taken) (ap nextOf (sym (n .next2 .given .1)) ∙ f .next-op .ensures) in
-    so .1
+    so-more (f .before .before .loop .inv) (n .next2 .given .0 .0) (f .before .loop-test .taken) (ap nextOf (sym (n .next2 .given .1)) ∙ f .next-op .ensures)
+
+mul-o : tie.Need-mul-o Inv-loop μ-loop
+mul-o c = omega (arith, passed c .some)
+
+element-set-from-o : tie.Need-element-set-from-o Inv-loop μ-loop
+element-set-from-o c = passed c .some
+
+add-t : tie.Need-add-t Inv-loop μ-loop
+add-t c = omega (arith, passed c .some)
 
 add-at : tie.Need-add-at Inv-loop μ-loop
-add-at c =
-    let n = c .before .before in
-    let f = n .before .before in
-    let i = f .before .before in
-    let so = so-more (i .loop .inv) (n .next2 .given .0 .0) (f .before .loop-test .taken) (ap nextOf (sym (n .next2 .given .1)) ∙ f .next-op .ensures) in
-    omega (arith, so .0, i .before .before .before .before .good .0 .0)
+add-at c = omega (arith, passed c .whole, c .before .before .before .before .before .before .before .before .before .good .0 .0)
 
 loop-less : tie.Need-loop-less Inv-loop μ-loop
-loop-less c =
-    let n = c .before .before in
-    let f = n .before .before in
-    let i = f .before .before in
-    let so = so-more (i .loop .inv) (n .next2 .given .0 .0) (f .before .loop-test .taken) (ap nextOf (sym (n .next2 .given .1)) ∙ f .next-op .ensures) in
-    omega (arith, so .0)
+loop-less c = omega (arith, passed c .whole)
 
 loop-again : tie.Need-loop-again Inv-loop μ-loop
-loop-again c =
-    let n = c .before .before in
-    let f = n .before .before in
-    let i = f .before .before in
-    let so = so-more (i .loop .inv) (n .next2 .given .0 .0) (f .before .loop-test .taken) (ap nextOf (sym (n .next2 .given .1)) ∙ f .next-op .ensures) in
-    rw (c .with-op .ensures) (so .2)
+loop-again c = passed c .so
 
 returns-2 : tie.Need-returns-2 Inv-loop μ-loop
 returns-2 c = so-end (c .before .loop .inv) (omega arith)
@@ -93,12 +94,15 @@ read-ops-spec =
     read-head-requires
     ops-place-requires
     loop-holds
+    sub-next-op
     next-op-requires
     enum-known-next
     deny-requires
     returns
     enum-known-next-2
-    with-op-requires
+    mul-o
+    element-set-from-o
+    add-t
     add-at
     loop-less
     loop-again
