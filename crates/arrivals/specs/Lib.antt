@@ -1,2 +1,2 @@
 pub mod Arrivals
-pub mod RaiseLaws
+pub mod EachLaws

@@ -1,146 +1,102 @@
--- What the loops over operations, distances and blocks find, as boards that are fine.
+-- Boards by the columns are boards by the finite test of the table.
 -- Assumes nothing.
-use Prim.Native.Nat.{ℕ, suc, _+_, _*_, _^_, _<_, _≤_}
-use mathlib.Core.Path.{_≡_, refl, sym, ap, _∙_}
-use mathlib.Core.Bool.{Bool, true, false, not, _&&_, and-assoc}
-use mathlib.Core.List.{List, []}
-use native.Mathlib.Nat.{mul-le-mul, mul-le-mul-left, mul-le-mul-right}
-use native.Mathlib.Numerals.{add-one}
+use Prim.Native.Nat.{ℕ, suc, _+_, _*_, _<_, _≤_}
+use mathlib.Core.Path.{_≡_, refl, subst, subst⁻¹}
+use mathlib.Core.Bool.{true, false}
+use mathlib.Core.List.{List}
+use native.Mathlib.Nat.{mul-le-mul-left}
 use native.Mathlib.Omega.{arith}
-use lib.Bits.{bitAnd, and-le-l}
-use lib.ListN.{length, getD}
-use borrow.Author.Tests.{not-true, not-false, lt-ltb, le-ltb}
-use Rattle.rules.specs.Sets.{Share, shares}
-use Rattle.rules.specs.Table as rules
-use Rattle.rules.specs.Table.{nops, op}
-use Rattle.theory.specs.Tests.{all, step, modesOf, boardBad, boardsFine}
-use Rattle.theory.proofs.Says.{Says, Known, holds, fails, known, clash-bool, says-by, says-and, says-not, says-all}
+use lib.Bits.{bitAnd}
+use Rattle.rules.specs.Sets.{Share, Overlap}
+use Rattle.rules.specs.Table.{Op, Table, nops, op, heldTo, Accepted}
+use Rattle.theory.specs.Tests.{via, boardBad, boardsFine}
+use Rattle.theory.proofs.Says.{Says, Known, holds, fails, known, says-ltb, says-and, says-not, says-all}
 use Rattle.theory.proofs.Sets.{says-shares}
-use Rattle.theory.proofs.Modes.{in-modes}
-use Rattle.table.specs.Tables.{tableOf, blankOp, Good}
-use Rattle.table.specs.declared.Table.{Table}
-use Rattle.turns.specs.Turns.{singles, rowAfter, blockFrom}
-use Rattle.turns.specs.TurnLaws.{good-step, rows-same, block-row, rows-add, via-row}
-use Rattle.laps.specs.Laps.{laps}
-use Rattle.boards.specs.Boards.{pairBad, shiftFine, distanceFine}
-use Rattle.boards.specs.AllLaws.{all-says, all-same, each-rest, all-rest, all-join}
-use Rattle.table.specs.TableLaws.{op-at}
+use Rattle.theory.proofs.Tests.{says-overlaps}
+use Rattle.columns.specs.Columns.{opBy, Columns}
+use Rattle.columns.specs.ColumnLaws.{op-there}
+use Rattle.turns.specs.Turns.{TurnsOf}
+use Rattle.boards.specs.Boards.{BadAt, Wrong, FirstRight, FirstFine}
 
--- ---- operations at a shift
+module _ (T : Table) (ok : Accepted T) (cols : List ℕ) (c : Columns T cols) where
+  module _ (F : List ℕ) (same : TurnsOf T F) (R x : ℕ) (low : 1 ≤ x) where
+    -- two operations, in any terms
+    abbrev Pair : ℕ → Op → Op → Type 0
+    Pair n o u =
+        Share (o .boards) (u .boards)
+        × (Overlap (o .start) (heldTo o) (u .start + suc n * x) (heldTo u + suc n * x)
+        × Share (via (T .follow) 0 n (bitAnd R (o .modes))) (u .modes))
 
-says-same : {P : Type 0} (a b : Bool) → Says a P → Says b P → a ≡ b
-says-same true b s t = sym (t .1 (s .0 refl))
-says-same false true s t = s .1 (t .0 refl)
-says-same false false s t = refl
+    abbrev Bad : ℕ → ℕ → ℕ → Type 0
+    Bad n i j = (suc n * x < T .len) × Pair n (op T i) (op T j)
 
--- no operation that passes f shares a mode with s
-clear-modes : (f : rules.Op → Bool) (os : List rules.Op) (s : ℕ)
-    → all (λ j. not (f (getD os j rules.noOp) && shares s (getD os j rules.noOp .modes))) (length os)
-    ≡ not (shares s (modesOf f os))
-clear-modes f os s =
-    says-same _ _
-    (says-all {P = λ j. Met j → ⊥} _ _ (λ j _. says-not _ (says-and _ _ (λ e. e, λ e. e) (says-shares s (getD os j rules.noOp .modes)))))
-    (says-by (says-not _ (says-shares s (modesOf f os)))
-    (λ x j h y. x (y .1 .0, y .1 .1, in-modes f os (y .1 .0) .1 (j, h, y .0, y .1 .2)))
-    (λ x y. let (u, h, t, p) = in-modes f os (y .0) .0 (y .2) in x u h (t, (y .0, y .1, p))))
-  where
-    Met : ℕ → Type 0
-    Met j = (f (getD os j rules.noOp) ≡ true) × Share s (getD os j rules.noOp .modes)
+    says-bad : (n i j : ℕ) → Says (boardBad T R x n i j) (Bad n i j)
+    unfolding boardBad
+    says-bad n i j =
+        says-and _ _ (says-ltb _ _) (says-and _ _ (says-shares _ _) (says-and _ _ (says-overlaps _ _ _ _) (says-shares _ _)))
 
--- operation i against all of them, at a shift: one turn by the row, of its modes that are in R, does for all that lap
-pub op-fine : (t : Table) (i : ℕ) → i < t .count → (row : List ℕ) (R shift : ℕ) {modes : ℕ} {met : Bool}
-    → modes ≡ modesOf (laps (op (tableOf t) i) shift) (tableOf t .ops)
-    → met ≡ shares (step row (bitAnd R (getD (t .ops) i blankOp .modes))) modes
-    → all (λ j. not (pairBad row R shift (op (tableOf t) i) (op (tableOf t) j))) (nops (tableOf t)) ≡ not met
-unfolding pairBad
-op-fine t i h row R shift e m =
-    clear-modes (laps (op (tableOf t) i) shift) (tableOf t .ops) (step row (bitAnd R (op (tableOf t) i .modes)))
-    ∙ rw (← e, op-at t i h) (ap not (sym m))
+    abbrev NoneBad : Type 0
+    NoneBad = (n : ℕ) → n < T .len → (i : ℕ) → i < nops T → (j : ℕ) → j < nops T → Bad n i j → ⊥
 
--- ---- distances
+    says-none : Says (boardsFine T R x) NoneBad
+    unfolding boardsFine
+    says-none = says-all _ _ (λ n _. says-all _ _ (λ i _. says-all _ _ (λ j _. says-not _ (says-bad n i j))))
 
-module _ (T : rules.Table) (R q n : ℕ) where
-  -- a distance that is looked at
-  near-pair : R < 2 ^ 32 → suc n * q < T .len → (i j : ℕ)
-      → boardBad T R q n i j ≡ pairBad (rowAfter (T .follow) singles (suc n)) R (suc n * q) (op T i) (op T j)
-  unfolding boardBad pairBad laps
-  near-pair small near i j =
-      rw (
-        lt-ltb (suc n * q) (T .len) near,
-        via-row (T .follow) n (bitAnd R (op T i .modes)) (omega (arith, and-le-l R (op T i .modes))),
-      )
-      (sym (and-assoc (shares (op T i .boards) (op T j .boards)) _ _))
+    -- a pair that is wrong by the columns is wrong by the table, and the other way
+    to-table : (n : ℕ) → BadAt F cols R n x → (i : ℕ) × (j : ℕ) × Pair n (op T i) (op T j)
+    to-table n bad =
+        let mode = subst (λ (s : ℕ). Share s (opBy cols (bad .other) .modes)) (same 0 n (bitAnd R (opBy cols (bad .one) .modes))) (bad .mode) in
+        let pair : Pair n (opBy cols (bad .one)) (opBy cols (bad .other)) = (bad .board, (bad .lap, mode)) in (
+          bad .one,
+          bad .other,
+          subst (λ (u : Op). Pair n (op T (bad .one)) u) (c .each (bad .other) (bad .second))
+              (subst (λ (o : Op). Pair n o (opBy cols (bad .other))) (c .each (bad .one) (bad .first)) pair),
+        )
 
-  distance-near : R < 2 ^ 32 → suc n * q < T .len
-      → distanceFine T R q n ≡ shiftFine T (rowAfter (T .follow) singles (suc n)) R (suc n * q)
-  unfolding distanceFine shiftFine
-  distance-near small near =
-      all-same _ _ (λ i. all-same _ _ (λ j. ap not (near-pair small near i j)) (nops T)) (nops T)
+    to-columns : (n i j : ℕ) → i < 32 → j < 32 → Pair n (op T i) (op T j) → BadAt F cols R n x
+    to-columns n i j h l pair =
+        let (board, (lap, mode)) =
+        subst⁻¹ (λ (o : Op). Pair n o (opBy cols j)) (c .each i h) (subst⁻¹ (λ (u : Op). Pair n (op T i) u) (c .each j l) pair)
+        in
+        record {
+          one = i;
+          other = j;
+          first = h;
+          second = l;
+          board = board;
+          mode = subst⁻¹ (λ (s : ℕ). Share s (opBy cols j .modes)) (same 0 n (bitAnd R (opBy cols i .modes))) mode;
+          lap = lap;
+        }
 
-  -- cycles a table's length apart, or more, have nothing in common
-  pub distance-far : T .len ≤ (n + 1) * q → (m : ℕ) → n ≤ m → distanceFine T R q m ≡ true
-  unfolding distanceFine boardBad
-  distance-far far m h =
-      let later : T .len ≤ suc m * q = omega (arith, mul-le-mul-right {m = n + 1} {n = suc m} q (omega arith)) in
-      all-says _ (nops T) .1 (λ i _. all-says _ (nops T) .1 (λ j _. rw (le-ltb (suc m * q) (T .len) later)))
+    fine-right : NoneBad → Wrong F cols R x → ⊥
+    fine-right none (n, bad) =
+        let (i, j, (board, (lap, mode))) = to-table n bad in
+        let h = op-there T (λ o. o .boards) refl i (board .0) (board .1) in
+        let l = op-there T (λ o. o .boards) refl j (board .0) (board .2) in
+        let near : suc n * x < T .len = omega (arith, lap .1, ok .each i h .fits) in
+        none n (omega (arith, mul-le-mul-left (suc n) low)) i h j l (near, (board, (lap, mode)))
 
--- ---- all distances
+    right-fine : (Wrong F cols R x → ⊥) → NoneBad
+    right-fine right n _ i h j l (near, pair) =
+        right (n, to-columns n i j (omega (arith, ok .ops-high)) (omega (arith, ok .ops-high)) pair)
 
-module _ (T : rules.Table) (R q d : ℕ) where
-  -- d distances are fine, and the others are too far
-  pub boards-end : T .len ≤ (d + 1) * q → all (distanceFine T R q) d ≡ true → boardsFine T R q ≡ true
-  unfolding boardsFine distanceFine
-  boards-end far e = all-rest (distanceFine T R q) d (T .len) e (distance-far T R q d far)
-
-  module _ (m : ℕ) {clear : Bool} (e : clear ≡ all (λ k. distanceFine T R q (d + k)) m) where
-    -- the next m distances are fine
-    pub boards-more : not clear ≡ false → all (distanceFine T R q) d ≡ true → all (distanceFine T R q) (d + m) ≡ true
-    boards-more x es = all-join (distanceFine T R q) d m es (sym e ∙ not-false clear x)
-
-    -- one of them is not
-    pub boards-hit : 1 ≤ q → not clear ≡ true → boardsFine T R q ≡ false
-    unfolding boardsFine distanceFine
-    boards-hit low x = go (known (all (distanceFine T R q) (T .len)))
+    wrong-not : Wrong F cols R x → boardsFine T R x ≡ false
+    wrong-not wrong = go (known (boardsFine T R x))
       where
-        far : T .len ≤ (T .len + 1) * q
-        far = omega (arith, mul-le-mul-left (T .len + 1) low)
+        go : Known (boardsFine T R x) → boardsFine T R x ≡ false
+        go (fails e) = e
+        go (holds e) = absurd (fine-right (says-none .0 e) wrong)
 
-        go : Known (all (distanceFine T R q) (T .len)) → all (distanceFine T R q) (T .len) ≡ false
-        go (fails y) = y
-        go (holds y) =
-            clash-bool
-            (all-says (λ k. distanceFine T R q (d + k)) m .1
-            (λ k _. each-rest (distanceFine T R q) (T .len) y (distance-far T R q (T .len) far) (d + k)))
-            (sym e ∙ not-true clear x)
+    right-is : (Wrong F cols R x → ⊥) → boardsFine T R x ≡ true
+    right-is right = says-none .1 (right-fine right)
 
--- ---- rows and blocks
-
-module _ (t : Table) (good : Good t) (done : ℕ) where
-  -- the row for a distance
-  row-at : (k : ℕ) → k < 16
-      → getD (blockFrom (t .follow) (rowAfter (t .follow) singles done)) k [] ≡ rowAfter (tableOf t .follow) singles (suc (done + k))
-  row-at k h =
-      let e : done + suc k ≡ suc (done + k) = omega arith in
-      block-row (t .follow) (rowAfter (t .follow) singles done) k h
-      ∙ rows-add (t .follow) singles done (suc k)
-      ∙ rows-same (t .follow) (tableOf t .follow) (good-step t good) singles (done + suc k)
-      ∙ ap (rowAfter (tableOf t .follow) singles) e
-
-  -- a distance that is looked at, by its row of the block
-  pub distance-at : {block : List (List ℕ)} → block ≡ blockFrom (t .follow) (rowAfter (t .follow) singles done)
-      → (R q k : ℕ) {clear : Bool} → R < 2 ^ 32 → k < 16 → (done + k + 1) * q < t .len
-      → clear ≡ shiftFine (tableOf t) (getD block k []) R ((done + k + 1) * q)
-      → distanceFine (tableOf t) R q (done + k) ≡ clear
-  distance-at e R q k small h near c =
-      distance-near (tableOf t) R q (done + k) small (rw add-one at near)
-      ∙ rw (← row-at k h, ← e, ← add-one (done + k)) (sym c)
-
--- the block behind a block
-pub block-next : (F row : List ℕ) (done : ℕ) → blockFrom F (getD (blockFrom F (rowAfter F row done)) 15 []) ≡ blockFrom F (rowAfter F row (done + 16))
-block-next F row done =
-    ap (blockFrom F) (block-row F (rowAfter F row done) 15 (omega arith) ∙ rows-add F row done 16)
-
--- a shift fits 32 bits
-pub shift-small : (t : Table) → Good t → (n q : ℕ) → n ≤ 2000 → q ≤ t .len → n * q < 2 ^ 32
-shift-small t good n q h l =
-    omega (arith, mul-le-mul {n₁ = n} {m₁ = q} {n₂ = 2000} {m₂ = 1000} h (omega (arith, good .accepted .len-high)))
+  -- the first period that is right by the columns is the first by the test
+  pub first-fine : (F : List ℕ) → TurnsOf T F → (R b q : ℕ) → 1 ≤ b
+      → FirstRight F cols R (T .len) b q → FirstFine T R b q
+  first-fine F same R b q low f =
+      record {
+        low = f .low;
+        high = f .high;
+        none = λ x l h. wrong-not F same R x (omega arith) (f .passed x l h);
+        fine = right-is F same R q (omega (arith, f .low)) (f .right);
+      }

@@ -1,3 +1,3 @@
 pub mod Boards
-pub mod AllLaws
+pub mod SweptLaws
 pub mod BoardLaws

@@ -1,78 +1,107 @@
-// Whether the boards are right at a period: no two operations want one board at one tick, at any distance of their cycles.
+// The first period at which the boards are right: distance by distance, every period is marked at which two operations that can run so many
+// cycles apart would hold one board at once.
 ghost use mathlib.Core.Path.{_≡_};
-ghost use Prim.Native.Nat.{_+_, _<_, _≤_};
-ghost use Rattle.rules.specs.Sets.{shares};
-ghost use Rattle.theory.specs.Tests.{all, step, boardsFine};
-ghost use Rattle.table.specs.Tables.{tableOf, Good};
-ghost use Rattle.turns.specs.Turns.{singles, rowAfter, blockFrom};
-ghost use Rattle.boards.specs.Boards.{shiftFine, distanceFine};
-use table::Table;
+ghost use mathlib.Core.List.{List, []};
+ghost use Prim.Native.Nat.{ℕ, _+_, _<_, _≤_};
+ghost use lib.ListN.{length, getD};
+ghost use Rattle.columns.specs.Columns.{Short};
+ghost use Rattle.turns.specs.Turns.{TurnsBy};
+ghost use Rattle.boards.specs.Boards.{EndsBy, Sized, Swept, FirstRight};
 
-// Some mode of `to` can stand as many turns after a mode of `from` as the row says. Mostly `to` is empty, and no turn has to be made.
-fn can_follow(row: &[u32], from: u32, to: u32) -> bool
-    ensures { λ r. ⌜ r ≡ shares (step (now (row .entry)) from) to ⌝ }
+// One distance more: all that is wrong n + 1 cycles apart is marked, and the first period that is not marked is given back.
+fn sweep_distance(
+    wrong: &mut [u8; 1000],
+    later: &mut [u32; 32],
+    cols: &[u32; 192],
+    row: &[u32; 32],
+    reached: u32,
+    len: u32,
+    n: u32,
+    q: u32,
+) -> u32
+    requires { ⌜ Sized len q (now later) (now wrong) × Short (now cols) × (n ≤ 1000) ⌝ }
+    ensures { λ r. ⌜ Sized len r (now (later .exit)) (now (wrong .exit))
+        × ((F : List ℕ) (b : ℕ) → TurnsBy F n (now (row .entry)) → Swept F (now (cols .entry)) reached len b n q (now (later .entry)) (now (wrong .entry))
+        → Swept F (now (cols .entry)) reached len b (n + 1) r (now (later .exit)) (now (wrong .exit))) ⌝ }
 {
-    if to == 0 {
-        return false;
-    }
-    sets::meets(sets::step(row, from), to)
+    sweeps::mark_distance(wrong, later, cols, row, reached, n, q);
+    sweeps::first_unmarked(wrong, len, q)
 }
 
-// No operation, shifted, wants a board of another or of itself in modes that can stand as far apart as the row says.
-fn distance_clear(t: Table, row: &[u32], reached: u32, shift: u32) -> bool
-    requires { ⌜ Good t ⌝ }
-    ensures { λ r. ⌜ r ≡ shiftFine (tableOf t) (now (row .entry)) reached shift ⌝ }
+// Sixteen distances, from done + 1 on, by their rows. It may end early: where so many cycles take until the end of the table, or where no
+// operation may meet another any more, nothing is wrong at any further distance.
+fn sweep_block(
+    wrong: &mut [u8; 1000],
+    later: &mut [u32; 32],
+    cols: &[u32; 192],
+    rows: [[u32; 32]; 16],
+    reached: u32,
+    len: u32,
+    done: u32,
+    q: u32,
+) -> u32
+    requires { ⌜ Sized len q (now later) (now wrong) × Short (now cols) × EndsBy (now cols) len × (done ≤ 1000) ⌝ }
+    ensures { λ r. ⌜ Sized len r (now (later .exit)) (now (wrong .exit))
+        × ((F : List ℕ) (b : ℕ) → ((k : ℕ) → k < 16 → TurnsBy F (done + k) (getD rows k []))
+        → Swept F (now (cols .entry)) reached len b done q (now (later .entry)) (now (wrong .entry))
+        → Swept F (now (cols .entry)) reached len b (done + 16) r (now (later .exit)) (now (wrong .exit))) ⌝ }
 {
-    let n = t.count;
-    let mut i: usize = 0;
-    while i < n {
-        let o = t.ops[i];
-        if can_follow(row, reached & o.modes, laps::lapped(t, i, shift)) {
-            return false;
-        }
-        i += 1;
-    }
-    true
-}
-
-// Sixteen distances, from done + 1 on. Cycles that are a table's length apart have nothing in common.
-fn block_clear(t: Table, block: [[u32; 32]; 16], reached: u32, q: u32, done: u32) -> bool
-    requires { ⌜ Good t × (block ≡ blockFrom (t .follow) (rowAfter (t .follow) singles done)) × (q ≤ t .len) × (done < t .len) ⌝ }
-    ensures { λ r. ⌜ r ≡ all (λ k. distanceFine (tableOf t) reached q (done + k)) 16 ⌝ }
-{
+    let mut first = q;
     let mut k: usize = 0;
     while k < 16 {
-        let shift = (done + k as u32 + 1) * q;
-        if t.len <= shift {
-            return true;
+        let n = done + k as u32;
+        if len <= (n + 1) * first {
+            return first;
         }
-        if !distance_clear(t, &block[k], reached, shift) {
-            return false;
+        if laters::none_left(later) {
+            return first;
         }
+        first = sweep_distance(wrong, later, cols, &rows[k], reached, len, n, first);
         k += 1;
     }
-    true
+    first
 }
 
-// The boards are right at q. `first` has the rows of the first sixteen distances, which serve every q, and `reached` the modes that a run can reach.
-// The smallest distance comes first, so that a wrong q falls early.
-pub fn boards_right(t: Table, first: [[u32; 32]; 16], reached: u32, q: u32) -> bool
-    requires { ⌜ Good t × (first ≡ blockFrom (t .follow) singles) × (1 ≤ q) × (q ≤ t .len) ⌝ }
-    ensures { λ r. ⌜ r ≡ boardsFine (tableOf t) reached q ⌝ }
+// All further distances, a block of rows after the other.
+fn sweep_rest(
+    wrong: &mut [u8; 1000],
+    later: &mut [u32; 32],
+    cols: &[u32; 192],
+    follow: &[u32; 32],
+    reached: u32,
+    len: u32,
+    q: u32,
+) -> u32
+    requires { ⌜ Sized len q (now later) (now wrong) × Short (now cols) × EndsBy (now cols) len × (length (now follow) ≡ 32) ⌝ }
+    ensures { λ r. ⌜ ((b : ℕ) → Swept (now (follow .entry)) (now (cols .entry)) reached len b 1 q (now (later .entry)) (now (wrong .entry))
+        → FirstRight (now (follow .entry)) (now (cols .entry)) reached len b r) ⌝ }
 {
-    let follow = t.follow;
-    let mut block = first;
-    let mut done: u32 = 0;
+    let mut first = q;
+    let mut last = *follow;
+    let mut done: u32 = 1;
     loop {
-        if !block_clear(t, block, reached, q, done) {
-            return false;
-        }
-        done += 16;
-        if t.len <= (done + 1) * q {
+        if len <= (done + 1) * first {
             break;
         }
-        let next = turns::block(&follow, &block[15]);
-        block = next;
+        if laters::none_left(later) {
+            break;
+        }
+        let rows = turns::block(follow, &last);
+        first = sweep_block(wrong, later, cols, rows, reached, len, done, first);
+        last = rows[15];
+        done += 16;
     }
-    true
+    first
+}
+
+// The first period from `bound` on at which the boards are right, for runs through the modes `reached`. The row of one turn is the followers
+// themselves, so that a block of rows is made only where a second distance counts.
+pub fn first_right(follow: &[u32; 32], cols: &[u32; 192], len: u32, reached: u32, bound: u32) -> u32
+    requires { ⌜ (length (now follow) ≡ 32) × Short (now cols) × EndsBy (now cols) len × (len ≤ 1000) × (1 ≤ bound) × (bound ≤ len) ⌝ }
+    ensures { λ r. ⌜ FirstRight (now (follow .entry)) (now (cols .entry)) reached len bound r ⌝ }
+{
+    let mut later = laters::later_sets(cols, bound);
+    let mut wrong = [0u8; 1000];
+    let q = sweep_distance(&mut wrong, &mut later, cols, follow, reached, len, 0, bound);
+    sweep_rest(&mut wrong, &mut later, cols, follow, reached, len, q)
 }

@@ -1,2 +1,4 @@
 pub mod Cells
+pub mod WalkLaws
+pub mod UserLaws
 pub mod WriteLaws

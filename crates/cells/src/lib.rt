@@ -1,67 +1,128 @@
-// A cell: the modes in which it is written between two dates, and those in which a reader finds what an earlier cycle left there.
+// A cell: which operations read and write it, the modes in which it is written between two dates, and those in which a reader finds what an
+// earlier cycle left there. Everything is asked of lent columns, and only the operations that use the cell are visited.
 ghost use mathlib.Core.Path.{_≡_};
-ghost use mathlib.Core.Bool.{cond};
-ghost use Prim.Native.Nat.{_<_};
-ghost use Rattle.theory.specs.Tests.{modesOf};
-ghost use Rattle.table.specs.Tables.{opOf, tableOf, Good};
-ghost use Rattle.cells.specs.Cells.{writesWithin, freshRead, freshSets};
-use table::Op;
-use table::Table;
+ghost use Prim.Native.Nat.{_<_, _≤_};
+ghost use lib.ListN.{length};
+ghost use Rattle.columns.specs.Columns.{Short};
+ghost use Rattle.cells.specs.Cells.{Added, Turned, modesWithin, endedIn, lastOf, freshOf, FreshSets, Early};
 
-// The modes of an operation that writes c and ends after one date and by another.
-fn modes_within(o: Op, c: u32, after: u32, by: u32) -> u32
-    requires { ⌜ c < 32 ⌝ }
-    ensures { λ r. ⌜ r ≡ cond (writesWithin c after by (opOf o)) (o .modes) 0 ⌝ }
+// ---- who uses each cell
+
+// Operation k is added to the set of each of these cells.
+fn add_user(users: &mut [u32; 32], k: u32, cells: u32)
+    requires { ⌜ (k < 32) × (length (now users) ≡ 32) ⌝ }
+    ensures { λ _. ⌜ Added (now (users .entry)) k cells (now (users .exit)) ⌝ }
 {
-    if !sets::member(o.writes, c) {
-        return 0;
+    let mut left = cells;
+    while left != 0 {
+        let c = sets::lowest(left);
+        let i = c as usize;
+        users[i] = sets::with(users[i], k);
+        left = sets::rest(left, c);
     }
-    let end = table::end_of(o);
-    if end <= after as u64 {
-        return 0;
-    }
-    if (by as u64) < end {
-        return 0;
-    }
-    o.modes
 }
 
-// The modes in which c is written after one date and by another.
-pub fn written_within(t: Table, c: u32, after: u32, by: u32) -> u32
-    requires { ⌜ Good t × (c < 32) ⌝ }
-    ensures { λ r. ⌜ r ≡ modesOf (writesWithin c after by) (tableOf t .ops) ⌝ }
+// For each cell the operations that have it in the column from `at` on: 96 for those that read it, 128 for those that write it.
+pub fn turned(cols: &[u32; 192], at: usize) -> [u32; 32]
+    requires { ⌜ at ≤ 160 ⌝ }
+    ensures { λ r. ⌜ Turned (now (cols .entry)) at r ⌝ }
+{
+    let mut users = [0u32; 32];
+    let mut k: usize = 0;
+    while k < 32 {
+        add_user(&mut users, k as u32, cols[at + k]);
+        k += 1;
+    }
+    users
+}
+
+// ---- the modes in which it is written
+
+// The modes of an operation that ends after one date and by another.
+fn modes_within(cols: &[u32; 192], k: usize, after: u32, by: u32) -> u32
+    requires { ⌜ (k < 32) × Short (now cols) ⌝ }
+    ensures { λ r. ⌜ r ≡ modesWithin (now (cols .entry)) after by k ⌝ }
+{
+    let end = columns::end(cols, k);
+    if end <= after {
+        return 0;
+    }
+    if by < end {
+        return 0;
+    }
+    columns::modes(cols, k)
+}
+
+// The modes of all the operations of a set that do.
+pub fn ended_within(cols: &[u32; 192], ops: u32, after: u32, by: u32) -> u32
+    requires { ⌜ Short (now cols) ⌝ }
+    ensures { λ r. ⌜ r ≡ endedIn (now (cols .entry)) ops after by ⌝ }
 {
     let mut all: u32 = 0;
-    let mut k: usize = 0;
-    while k < t.count {
-        all = all | modes_within(t.ops[k], c, after, by);
-        k += 1;
+    let mut left = ops;
+    while left != 0 {
+        let k = sets::lowest(left);
+        all = all | modes_within(cols, k as usize, after, by);
+        left = sets::rest(left, k);
     }
     all
 }
 
-// The modes in which operation j reads c and finds what an earlier cycle left there; none where it does not read c.
-fn fresh_in(t: Table, c: u32, j: usize) -> u32
-    requires { ⌜ Good t × (c < 32) × (j < t .count) ⌝ }
-    ensures { λ r. ⌜ r ≡ freshRead (tableOf t) c j ⌝ }
+// The modes of a writer in which no other ends after it: it is the last to write the cell. No operation ends after tick 1000.
+pub fn last_in(cols: &[u32; 192], writers: u32, i: usize) -> u32
+    requires { ⌜ (i < 32) × Short (now cols) ⌝ }
+    ensures { λ r. ⌜ r ≡ lastOf (now (cols .entry)) writers i ⌝ }
 {
-    let o = t.ops[j];
-    if !sets::member(o.reads, c) {
-        return 0;
-    }
-    sets::without(o.modes, written_within(t, c, 0, o.start))
+    let end = columns::end(cols, i);
+    sets::without(
+        columns::modes(cols, i),
+        ended_within(cols, writers, end, 1000),
+    )
 }
 
-// The same for each operation.
-pub fn fresh_sets(t: Table, c: u32) -> [u32; 32]
-    requires { ⌜ Good t × (c < 32) ⌝ }
-    ensures { λ r. ⌜ r ≡ freshSets (tableOf t) c ⌝ }
+// ---- the modes in which it is read
+
+// The modes of a reader in which no writer ends by its start: it finds what an earlier cycle left there.
+fn fresh_in(cols: &[u32; 192], writers: u32, j: usize) -> u32
+    requires { ⌜ (j < 32) × Short (now cols) ⌝ }
+    ensures { λ r. ⌜ r ≡ freshOf (now (cols .entry)) writers j ⌝ }
+{
+    let start = columns::start(cols, j);
+    sets::without(
+        columns::modes(cols, j),
+        ended_within(cols, writers, 0, start),
+    )
+}
+
+// The same for each reader; nobody asks for the set of another operation.
+pub fn fresh_sets(cols: &[u32; 192], writers: u32, readers: u32) -> [u32; 32]
+    requires { ⌜ Short (now cols) ⌝ }
+    ensures { λ r. ⌜ FreshSets (now (cols .entry)) writers readers r ⌝ }
 {
     let mut out = [0u32; 32];
-    let mut j: usize = 0;
-    while j < t.count {
-        out[j] = fresh_in(t, c, j);
-        j += 1;
+    let mut left = readers;
+    while left != 0 {
+        let m = sets::lowest(left);
+        let j = m as usize;
+        out[j] = fresh_in(cols, writers, j);
+        left = sets::rest(left, m);
     }
     out
+}
+
+// A tick before which no reader starts: as the walk goes, the start of the first, or 1000 where there is none.
+pub fn earliest(cols: &[u32; 192], readers: u32) -> u32
+    ensures { λ r. ⌜ Early (now (cols .entry)) readers r ⌝ }
+{
+    let mut early: u32 = 1000;
+    let mut left = readers;
+    while left != 0 {
+        let j = sets::lowest(left);
+        let start = columns::start(cols, j as usize);
+        if start < early {
+            early = start;
+        }
+        left = sets::rest(left, j);
+    }
+    early
 }

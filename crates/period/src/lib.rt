@@ -5,26 +5,18 @@ ghost use mathlib.Core.Logic.{_↔_};
 ghost use Prim.Native.Nat.{_≤_};
 ghost use Rattle.rules.specs.Runs.{BoardsRightAt, ValuesRightAt, spaced, IsPeriod};
 ghost use Rattle.table.specs.Tables.{tableOf, Good};
-ghost use Rattle.turns.specs.Turns.{singles, blockFrom};
 use table::Table;
 
-// The first sixteen distances: they serve every period.
-fn first_block(follow: &[u32]) -> [[u32; 32]; 16]
-    ensures { λ r. ⌜ r ≡ blockFrom (now (follow .entry)) singles ⌝ }
-{
-    let each = turns::singles();
-    turns::block(follow, &each)
-}
-
-// No two running steps hold one board at once, in any run.
+// No two running steps hold one board at once, in any run: the sweep that begins at q ends there.
 pub fn boards_fit(t: Table, q: u32) -> bool
     requires { ⌜ Good t × (1 ≤ q) × (q ≤ t .len) ⌝ }
     ensures { λ r. ⌜ (r ≡ true) ↔ BoardsRightAt (tableOf t) (spaced q) ⌝ }
 {
-    let reached = turns::reached(t);
     let follow = t.follow;
-    let first = first_block(&follow);
-    boards::boards_right(t, first, reached, q)
+    let ops = t.ops;
+    let cols = columns::columns(ops, t.count);
+    let reached = turns::reached(&follow, t.first);
+    boards::first_right(&follow, &cols, t.len, reached, q) == q
 }
 
 // Every step reads the value it would have read with no overlap, in any run.
@@ -32,25 +24,22 @@ pub fn values_arrive(t: Table, q: u32) -> bool
     requires { ⌜ Good t × (1 ≤ q) ⌝ }
     ensures { λ r. ⌜ (r ≡ true) ↔ ValuesRightAt (tableOf t) (spaced q) ⌝ }
 {
-    let reached = turns::reached(t);
-    values::values_bound(t, reached) <= q
+    let follow = t.follow;
+    let ops = t.ops;
+    let cols = columns::columns(ops, t.count);
+    let reached = turns::reached(&follow, t.first);
+    values::values_bound(&follow, &cols, t.cells, reached) <= q
 }
 
-// The smallest right period: values are right exactly from a bound up, so the search for the boards begins there. It goes up by one,
-// since boards that fit at a period need not fit at a longer one.
+// The smallest right period: values are right exactly from a bound up, so the sweep over the boards begins there.
 pub fn smallest(t: Table) -> u32
     requires { ⌜ Good t ⌝ }
     ensures { λ r. ⌜ IsPeriod (tableOf t) r ⌝ }
 {
-    let reached = turns::reached(t);
     let follow = t.follow;
-    let first = first_block(&follow);
-    let mut q = values::values_bound(t, reached);
-    loop {
-        if boards::boards_right(t, first, reached, q) {
-            break;
-        }
-        q += 1;
-    }
-    q
+    let ops = t.ops;
+    let cols = columns::columns(ops, t.count);
+    let reached = turns::reached(&follow, t.first);
+    let bound = values::values_bound(&follow, &cols, t.cells, reached);
+    boards::first_right(&follow, &cols, t.len, reached, bound)
 }

@@ -1,6 +1,6 @@
 -- The members of a set, one after the other: the lowest, by the trailing zeros, and what is left without it; and how many there are, by the ones.
 -- Assumes nothing.
-use Prim.Native.Nat.{ℕ, zero, suc, _+_, _*_, _/_, _%_, _^_, _<_, _≤_, max}
+use Prim.Native.Nat.{ℕ, zero, suc, _+_, _/_, _%_, _^_, _<_, _≤_, max}
 use mathlib.Core.Path.{_≡_, refl, sym, ap, subst}
 use mathlib.Core.Logic.{_↔_, _⊎_, inl, inr}
 use mathlib.Core.List.{List}
@@ -11,11 +11,11 @@ use lib.Arith.{lt-one}
 use lib.Bits.{bitOr, or-step}
 use lib.Count.{trailingZeros, ones, ones-step}
 use lib.ListN.{getD}
-use Rattle.rules.specs.Sets.{In}
+use Rattle.rules.specs.Sets.{In, Within}
 use Rattle.theory.specs.Tests.{without, step}
-use Rattle.theory.proofs.Sets.{in-none, in-zero, in-suc, in-or, in-without, in-small}
+use Rattle.theory.proofs.Sets.{in-none, in-zero, in-suc, in-or, in-without}
 use Rattle.theory.proofs.Modes.{in-step}
-use Rattle.sets.specs.Laws.{one-shl, within-le, same-members, or-assoc}
+use Rattle.sets.specs.Laws.{within-le, same-members, or-assoc}
 
 -- ---- the lowest member
 
@@ -56,7 +56,7 @@ in-single (suc m) (suc k) =
 
 module _ (s m : ℕ) (here : In m s) where
   -- the others stay
-  in-rest : (j : ℕ) → In j s ↔ ((j ≡ m) ⊎ In j (without s (2 ^ m)))
+  pub in-rest : (j : ℕ) → In j s ↔ ((j ≡ m) ⊎ In j (without s (2 ^ m)))
   in-rest j = (λ x. fwd x (ℕ-discrete j m), bwd)
     where
       fwd : In j s → Dec (j ≡ m) → (j ≡ m) ⊎ In j (without s (2 ^ m))
@@ -73,10 +73,6 @@ module _ (s m : ℕ) (here : In m s) where
     where
       other : without s (2 ^ m) ≡ s → ⊥
       other e = in-without m s (2 ^ m) .0 (subst (λ (x : ℕ). In m x) (sym e) here) .1 (in-single m m .1 refl)
-
-  -- as the code takes it away, in a type of w bits
-  pub rest-shl : (w : ℕ) → s < 2 ^ w → {r : ℕ} → r ≡ without s ((1 * 2 ^ m) % 2 ^ w) → r ≡ without s (2 ^ m)
-  rest-shl w h e = rw (one-shl w m (in-small m w s h here)) at e
 
   -- one turn: what follows a member, and one turn of what is left without it
   step-member : (F : List ℕ) → step F s ≡ bitOr (getD F m 0) (step F (without s (2 ^ m)))
@@ -97,6 +93,48 @@ module _ (s m : ℕ) (here : In m s) where
   pub walk-on : (F : List ℕ) (all word rest : ℕ) → word ≡ getD F m 0 → rest ≡ without s (2 ^ m)
       → bitOr (bitOr all word) (step F rest) ≡ bitOr all (step F s)
   walk-on F all word rest e f = rw (e, f, ← or-assoc, ← step-member F)
+
+-- ---- a walk over the members of s, of which `left` are not yet visited
+
+abbrev pub Past : ℕ → ℕ → ℕ → Type 0
+Past s left j = In j s × (In j left → ⊥)
+
+pub past-none : (s j : ℕ) → Past s s j → ⊥
+past-none s j p = p .1 (p .0)
+
+pub past-all : (s j : ℕ) → In j s → Past s 0 j
+past-all s j h = (h, in-none j)
+
+module _ (s left m : ℕ) (inside : Within left s) (here : In m left) where
+  pub rest-within : Within (without left (2 ^ m)) s
+  rest-within j x = inside j (in-without j left (2 ^ m) .0 x .0)
+
+  -- with its next member visited
+  pub past-more : (j : ℕ) → Past s (without left (2 ^ m)) j ↔ (Past s left j ⊎ (j ≡ m))
+  past-more j = (λ p. fwd p (ℕ-discrete j m), bwd)
+    where
+      fwd : Past s (without left (2 ^ m)) j → Dec (j ≡ m) → Past s left j ⊎ (j ≡ m)
+      fwd p (yes e) = inr e
+      fwd p (no n) = inl (p .0, λ x. p .1 (in-without j left (2 ^ m) .1 (x, λ z. n (in-single j m .0 z))))
+
+      bwd : Past s left j ⊎ (j ≡ m) → Past s (without left (2 ^ m)) j
+      bwd (inl p) = (p .0, λ x. p .1 (in-without j left (2 ^ m) .0 x .0))
+      bwd (inr e) = (
+        subst (λ (k : ℕ). In k s) (sym e) (inside m here),
+        λ x. in-without j left (2 ^ m) .0 x .1 (in-single j m .1 e),
+      )
+
+-- s with m
+pub in-with : (s m j : ℕ) → In j (bitOr s (2 ^ m)) ↔ (In j s ⊎ (j ≡ m))
+in-with s m j = (λ h. fwd (in-or j s (2 ^ m) .0 h), λ h. in-or j s (2 ^ m) .1 (bwd h))
+  where
+    fwd : In j s ⊎ In j (2 ^ m) → In j s ⊎ (j ≡ m)
+    fwd (inl x) = inl x
+    fwd (inr x) = inr (in-single j m .0 x)
+
+    bwd : In j s ⊎ (j ≡ m) → In j s ⊎ In j (2 ^ m)
+    bwd (inl x) = inl x
+    bwd (inr e) = inr (in-single j m .1 e)
 
 -- nothing follows where no member is left
 pub step-none : (F : List ℕ) → step F 0 ≡ 0

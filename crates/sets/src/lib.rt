@@ -2,19 +2,12 @@
 ghost use mathlib.Core.Path.{_≡_};
 ghost use Prim.Native.Nat.{_^_, _<_, _≤_};
 ghost use lib.Dec.{ltb};
+ghost use lib.Bits.{bitOr};
 ghost use lib.ListN.{getD};
 ghost use Rattle.rules.specs.Sets.{has, shares};
 ghost use Rattle.rules.specs.Judge.{setOk};
 ghost use Rattle.theory.specs.Tests.{without, step};
 ghost use Rattle.sets.specs.Members.{IsLowest};
-
-// m is a member of s
-pub fn member(s: u32, m: u32) -> bool
-    requires { ⌜ m < 32 ⌝ }
-    ensures { λ r. ⌜ r ≡ has s m ⌝ }
-{
-    (s >> m) % 2 == 1
-}
 
 // s and t share a member
 pub fn meets(s: u32, t: u32) -> bool
@@ -50,11 +43,27 @@ pub fn is_set_of(n: u32, s: u64) -> bool
 }
 
 // the member of s that comes first
-fn lowest(s: u32) -> u32
+pub fn lowest(s: u32) -> u32
     requires { ⌜ 0 < s ⌝ }
     ensures { λ r. ⌜ IsLowest s r ⌝ }
 {
     u32::trailing_zeros(s)
+}
+
+// s without m: what a walk over the members has left
+pub fn rest(s: u32, m: u32) -> u32
+    requires { ⌜ m < 32 ⌝ }
+    ensures { λ r. ⌜ r ≡ without s (2 ^ m) ⌝ }
+{
+    without(s, 1u32 << m)
+}
+
+// s with m
+pub fn with(s: u32, m: u32) -> u32
+    requires { ⌜ m < 32 ⌝ }
+    ensures { λ r. ⌜ r ≡ bitOr s (2 ^ m) ⌝ }
+{
+    s | (1u32 << m)
 }
 
 // what the words have for mode m: nothing where they end before it
@@ -78,7 +87,7 @@ pub fn step(follow: &[u32], s: u32) -> u32
     while left != 0 {
         let m = lowest(left);
         all = all | word(follow, m);
-        left = without(left, 1u32 << m);
+        left = rest(left, m);
     }
     all
 }

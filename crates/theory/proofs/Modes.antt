@@ -16,7 +16,7 @@ use Rattle.theory.proofs.Says.{Says, says-by}
 use Rattle.theory.proofs.Sets.{in-none, in-suc, in-and, in-or, in-without, says-shares}
 
 -- a set that is there only under a condition
-in-cond : (t : Bool) (f m : ℕ) → In m (cond t f 0) ↔ ((t ≡ true) × In m f)
+pub in-cond : (t : Bool) (f m : ℕ) → In m (cond t f 0) ↔ ((t ≡ true) × In m f)
 in-cond true f m = (λ h. (refl, h), λ h. h .1)
 in-cond false f m = (λ h. absurd (in-none m h), λ h. subst (λ (t : Bool). In m (cond t f 0)) (sym (h .0)) (h .1))
 

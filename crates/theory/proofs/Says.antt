@@ -13,6 +13,10 @@ use Rattle.theory.proofs.Order.{Cmp, cmp}
 abbrev pub Says : Bool → Type 0 → Type 0
 Says b P = (b ≡ true) ↔ P
 
+-- every test says that it is true
+pub says-itself : {b : Bool} → Says b (b ≡ true)
+says-itself = (λ e. e, λ e. e)
+
 pub says-by : {P Q : Type 0} {b : Bool} → Says b P → (P → Q) → (Q → P) → Says b Q
 says-by s f g = (λ e. f (s .0 e), λ q. s .1 (g q))
 

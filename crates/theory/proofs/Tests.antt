@@ -13,14 +13,11 @@ use Rattle.rules.specs.Runs.{BoardsRightAt, ValuesRightAt, Right, spaced}
 use Rattle.theory.specs.Walks.{IsReach}
 use Rattle.theory.specs.Near.{BoardsNear, LastWriter, Quiet, QuietTo, ValuesNear}
 use Rattle.theory.specs.Tests.{without, modesOf, boardBad, writers, lastIn, freshIn, valueBad, boardsFine, valuesFine}
-use Rattle.theory.proofs.Says.{Says, says-by, says-leb, says-ltb, says-and, says-not, says-all}
+use Rattle.theory.proofs.Says.{Says, says-itself, says-by, says-leb, says-ltb, says-and, says-not, says-all}
 use Rattle.theory.proofs.Sets.{in-none, in-without, in-small, says-shares}
 use Rattle.theory.proofs.Modes.{Way, says-way, in-modes, walk-map}
 use Rattle.theory.proofs.Boards.{boards-iff}
 use Rattle.theory.proofs.Values.{values-iff}
-
-says-has : (s m : ℕ) → Says (has s m) (In m s)
-says-has s m = (λ e. e, λ e. e)
 
 pub says-overlaps : (a b c d : ℕ) → Says (overlaps a b c d) (Overlap a b c d)
 unfolding overlaps
@@ -84,7 +81,7 @@ module _ (T : Table) (R : ℕ) (hR : IsReach T R) (q : ℕ) (low : 1 ≤ q) wher
       test o = has (o .writes) c && ltb (endOf (op T i)) (endOf o)
 
       says : (o : Op) → Says (test o) (In c (o .writes) × (endOf (op T i) < endOf o))
-      says o = says-and _ _ (says-has (o .writes) c) (says-ltb _ _)
+      says o = says-and _ _ says-itself (says-ltb _ _)
 
       fwd : LastWriter T c a i → In a (without (op T i .modes) (modesOf test (T .ops)))
       fwd x =
@@ -117,7 +114,7 @@ module _ (T : Table) (R : ℕ) (hR : IsReach T R) (q : ℕ) (low : 1 ≤ q) wher
       test o = has (o .writes) c && leb (endOf o) (op T j .start)
 
       says : (o : Op) → Says (test o) (In c (o .writes) × (endOf o ≤ op T j .start))
-      says o = says-and _ _ (says-has (o .writes) c) (says-leb _ _)
+      says o = says-and _ _ says-itself (says-leb _ _)
 
       fwd : In b (op T j .modes) × QuietTo T c (op T j .start) b → In b (without (op T j .modes) (modesOf test (T .ops)))
       fwd x =
@@ -143,8 +140,8 @@ module _ (T : Table) (R : ℕ) (hR : IsReach T R) (q : ℕ) (low : 1 ≤ q) wher
   unfolding valueBad
   says-valueBad n c i j =
       says-and _ _ (says-ltb _ _)
-      (says-and _ _ (says-has (op T i .writes) c)
-      (says-and _ _ (says-has (op T j .reads) c)
+      (says-and _ _ says-itself
+      (says-and _ _ says-itself
       (says-and _ _ (says-ltb _ _) (says-way T R hR (writers T c) n (lastIn T c i) (freshIn T c j)))))
 
   abbrev NoValueBad : Type 0

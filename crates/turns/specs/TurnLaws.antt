@@ -1,27 +1,27 @@
 -- What the successor sets mean: bit b of the set of mode m in row n is there exactly when b follows m by exactly n turns.
 -- Assumes nothing.
-use Prim.Native.Nat.{ℕ, zero, suc, _+_, _-_, _^_, _<_}
-use mathlib.Core.Path.{_≡_, refl, sym, ap, ap₂, subst, _∙_}
-use mathlib.Core.Bool.{Bool, cond}
+use Prim.Native.Nat.{ℕ, zero, suc, _+_, _-_, _^_, _<_, _≤_}
+use mathlib.Core.Path.{_≡_, refl, sym, ap, subst, _∙_}
 use mathlib.Core.Logic.{_↔_, inl}
 use mathlib.Core.List.{List, [], _∷_, _++_}
+use native.Mathlib.Decide.{decLt}
 use native.Mathlib.Omega.{arith}
-use lib.Bits.{bitOr, and-zero-r, or-zero-l, or-zero-r, xor-zero-r}
-use lib.ListN.{length, take, getD, length-append, List·getD-append}
-use lib.Seq.{getD-at}
+use lib.Bits.{bitOr, and-zero-r, xor-zero-r}
+use lib.ListN.{length, getD, length-append, List·getD-append, List·getD-eq-default}
+use lib.Seq.{getD-at, ext-getD}
 use Rattle.rules.specs.Sets.{In, Within}
 use Rattle.rules.specs.Table as rules
-use Rattle.theory.specs.Tests.{without, step, via, modesOf}
+use Rattle.theory.specs.Tests.{without, step, via}
 use Rattle.theory.specs.Walks.{Reach, begin, turn, IsReach, Walk, Any}
 use Rattle.theory.proofs.Order.{Cmp, cmp}
-use Rattle.theory.proofs.Sets.{in-none, in-small, in-or}
+use Rattle.theory.proofs.Sets.{in-none, in-or}
 use Rattle.theory.proofs.Modes.{in-step, in-via, walk-map, grown}
 use Rattle.theory.proofs.Exists.{shut-reach}
-use Rattle.sets.specs.Laws.{same-members, or-assoc, step-pad}
+use Rattle.sets.specs.Laws.{same-members, step-pad}
 use Rattle.sets.specs.Members.{in-single}
 use Rattle.table.specs.Tables.{tableOf, padded, Good}
 use Rattle.table.specs.declared.Table.{Table}
-use Rattle.turns.specs.Turns.{tab, singles, nextRow, rowAfter, blockFrom}
+use Rattle.turns.specs.Turns.{tab, nextRow, SameRow, rowAfter, blockFrom, TurnsBy, TurnsOf}
 
 -- ---- lists of a function's values
 module _ {A : Type 0} (f : ℕ → A) where
@@ -29,7 +29,7 @@ module _ {A : Type 0} (f : ℕ → A) where
   unfolding tab
   tab-suc n = refl
 
-  pub length-tab : (n : ℕ) → length (tab f n) ≡ n
+  length-tab : (n : ℕ) → length (tab f n) ≡ n
   unfolding tab
   length-tab zero = refl
   length-tab (suc n) = length-append (tab f n) (f n ∷ []) ∙ omega (arith, length-tab n)
@@ -42,39 +42,28 @@ module _ {A : Type 0} (f : ℕ → A) where
       go (Cmp.same e) = getD-at (tab f n) (f n) [] d i (length-tab n ∙ sym e) ∙ ap f (sym e)
       go (Cmp.more l) = absurd (omega arith)
 
-  pub getD-tab : (n i : ℕ) (d : A) → i < n → getD (tab f n) i d ≡ f i
+  getD-tab : (n i : ℕ) (d : A) → i < n → getD (tab f n) i d ≡ f i
   unfolding tab
   getD-tab zero i d h = absurd (omega arith)
   getD-tab (suc n) i d h = tab-more n i d h (getD-tab n i d)
 
-tab-same : {A : Type 0} (f g : ℕ → A) (n : ℕ) → ((i : ℕ) → i < n → f i ≡ g i) → tab f n ≡ tab g n
-unfolding tab
-tab-same f g zero h = refl
-tab-same f g (suc n) h = ap₂ (λ x y. x ++ (y ∷ [])) (tab-same f g n (λ i l. h i (omega arith))) (h n (omega arith))
-
 -- ---- the followers of the code's array are those of the table
-pub good-step : (t : Table) → Good t → (s : ℕ) → step (t .follow) s ≡ step (tableOf t .follow) s
+good-step : (t : Table) → Good t → (s : ℕ) → step (t .follow) s ≡ step (tableOf t .follow) s
 unfolding padded
 good-step t good s =
     ap (λ (u : Table). step (u .follow) s) (good .tidy) ∙ step-pad (tableOf t .follow) (32 - length (tableOf t .follow)) s
 
--- rows go by the turns alone
-pub rows-same : (F G : List ℕ) → ((s : ℕ) → step F s ≡ step G s) → (row : List ℕ) (n : ℕ) → rowAfter F row n ≡ rowAfter G row n
-unfolding rowAfter nextRow
-rows-same F G h row zero = refl
-rows-same F G h row (suc n) =
-    tab-same _ _ 32 (λ m _. ap (λ (r : List ℕ). step F (getD r m 0)) (rows-same F G h row n) ∙ h (getD (rowAfter G row n) m 0))
+-- so turns by way of some modes are the same too
+pub good-via : (t : Table) → Good t → TurnsOf (tableOf t) (t .follow)
+unfolding via
+good-via t good w zero s = good-step t good s
+good-via t good w (suc n) s =
+    good-via t good w n (without (step (t .follow) s) w)
+    ∙ ap (λ (r : ℕ). via (tableOf t .follow) w n (without r w)) (good-step t good s)
 
 pub row-next : (F row : List ℕ) (n : ℕ) → nextRow F (rowAfter F row n) ≡ rowAfter F row (suc n)
 unfolding rowAfter
 row-next F row n = refl
-
--- a row further on
-pub rows-add : (F row : List ℕ) (k n : ℕ) → rowAfter F (rowAfter F row k) n ≡ rowAfter F row (k + n)
-unfolding rowAfter
-rows-add F row k zero = let e : k ≡ k + 0 = omega arith in ap (rowAfter F row) e
-rows-add F row k (suc n) =
-    let e : suc (k + n) ≡ k + suc n = omega arith in ap (nextRow F) (rows-add F row k n) ∙ ap (rowAfter F row) e
 
 -- a list of the next sixteen rows is their block
 pub rows-block : (F row : List ℕ) {rows : List (List ℕ)} → rows ≡ tab (λ n. rowAfter F row (suc n)) 16 → rows ≡ blockFrom F row
@@ -82,7 +71,7 @@ unfolding blockFrom
 rows-block F row e = e
 
 -- the row that stands in a block
-pub block-row : (F row : List ℕ) (n : ℕ) → n < 16 → getD (blockFrom F row) n [] ≡ rowAfter F row (suc n)
+block-row : (F row : List ℕ) (n : ℕ) → n < 16 → getD (blockFrom F row) n [] ≡ rowAfter F row (suc n)
 unfolding blockFrom
 block-row F row n h = getD-tab (λ k. rowAfter F row (suc k)) 16 n [] h
 
@@ -92,77 +81,81 @@ without-none : (s : ℕ) → without s 0 ≡ s
 unfolding without
 without-none s = rw (and-zero-r, xor-zero-r)
 
--- one turn more at the end
-via-out : (F : List ℕ) (n s : ℕ) → via F 0 (suc n) s ≡ step F (via F 0 n s)
-unfolding via
-via-out F zero s = ap (step F) (without-none (step F s))
-via-out F (suc n) s = via-out F n (without (step F s) 0)
-
--- the turns of a set are those of its members
-via-each : (F : List ℕ) (n s b : ℕ) → In b (via F 0 n s) ↔ ((a : ℕ) × In a s × In b (via F 0 n (2 ^ a)))
-unfolding via
-via-each F zero s b = (
-  λ h. let (a, x, y) = in-step F s b .0 h in (a, x, in-step F (2 ^ a) b .1 (a, in-single a a .1 refl, y)),
-  λ (a, x, h).
-      let (c, y, z) = in-step F (2 ^ a) b .0 h in
-      in-step F s b .1 (a, x, subst (λ (m : ℕ). In b (getD F m 0)) (in-single c a .0 y) z),
-)
-via-each F (suc n) s b = later-each F n s b (via-each F n s)
-  where
-    later-each : (F : List ℕ) (n s b : ℕ) → ((c : ℕ) → In c (via F 0 n s) ↔ ((a : ℕ) × In a s × In c (via F 0 n (2 ^ a))))
-        → In b (via F 0 (suc n) s) ↔ ((a : ℕ) × In a s × In b (via F 0 (suc n) (2 ^ a)))
-    later-each F n s b ih = (
-      λ h.
-          let (c, x, y) = in-step F (via F 0 n s) b .0 (rw (via-out F n s) at h) in
-          let (a, z, w) = ih c .0 x in
-          (a, z, rw (via-out F n (2 ^ a)) (in-step F (via F 0 n (2 ^ a)) b .1 (c, w, y))),
-      λ (a, z, h).
-          let (c, w, y) = in-step F (via F 0 n (2 ^ a)) b .0 (rw (via-out F n (2 ^ a)) at h) in
-          rw (via-out F n s) (in-step F (via F 0 n s) b .1 (c, ih c .1 (a, z, w), y)),
-    )
-
--- ---- what a row of turns from single modes holds
-row-via : (F : List ℕ) (n m : ℕ) → m < 32 → getD (rowAfter F singles (suc n)) m 0 ≡ via F 0 n (2 ^ m)
-unfolding rowAfter nextRow singles via
-row-via F zero m h =
-    getD-tab (λ k. step F (getD singles k 0)) 32 m 0 h ∙ ap (step F) (getD-tab (λ k. 2 ^ k) 32 m 0 h)
-row-via F (suc n) m h =
-    getD-tab (λ k. step F (getD (rowAfter F singles (suc n)) k 0)) 32 m 0 h
-    ∙ ap (step F) (row-via F n m h)
-    ∙ sym (via-out F n (2 ^ m))
-
--- bit b of entry n, m of the first block, exactly when b follows m by exactly n + 1 turns
-pub row-turns : (T : rules.Table) (n m b : ℕ) → m < 32 → In b (getD (rowAfter (T .follow) singles (suc n)) m 0) ↔ Walk T Any (suc n) m b
-row-turns T n m b h = (
-  λ x.
-      let (a, y, w) = in-via T 0 n (2 ^ m) b .0 (rw (row-via (T .follow) n m h) at x) in
-      subst (λ (k : ℕ). Walk T Any (suc n) k b) (in-single a m .0 y) (walk-map (λ k _. tt) w),
-  λ w. rw (row-via (T .follow) n m h) (in-via T 0 n (2 ^ m) b .1 (m, in-single m m .1 refl, walk-map (λ k _ e. in-none k e) w)),
-)
-
--- the modes n + 1 turns after a set: the row stepped by the set, as the followers are for one turn
-pub via-row : (F : List ℕ) (n s : ℕ) → s < 2 ^ 32 → via F 0 n s ≡ step (rowAfter F singles (suc n)) s
-via-row F n s small =
-    same-members (via F 0 n s) (step (rowAfter F singles (suc n)) s)
+-- a turn by F and then one by the row is one by the next row
+step-through : (F row : List ℕ) (s : ℕ) → length F ≤ 32 → step (nextRow F row) s ≡ step row (step F s)
+unfolding nextRow
+step-through F row s few =
+    same-members _ _
     (λ b. (
+      λ h. let (a, x, y) = in-step (nextRow F row) s b .0 h in fwd a b x y (decLt a 32),
       λ h.
-          let (a, x, y) = via-each F n s b .0 h in
-          in-step (rowAfter F singles (suc n)) s b .1 (a, x, rw (row-via F n a (in-small a 32 s small x)) y),
-      λ h.
-          let (a, x, y) = in-step (rowAfter F singles (suc n)) s b .0 h in
-          via-each F n s b .1 (a, x, rw (row-via F n a (in-small a 32 s small x)) at y),
+          let (c, x, y) = in-step row (step F s) b .0 h in
+          let (a, z, w) = in-step F s c .0 x in
+          in-step (nextRow F row) s b .1 (a, z, bwd a b c w y (decLt a 32)),
     ))
+  where
+    fwd : (a b : ℕ) → In a s → In b (getD (nextRow F row) a 0) → Dec (a < 32) → In b (step row (step F s))
+    fwd a b x y (yes h) =
+        let (c, z, w) = in-step row (getD F a 0) b .0 (rw (getD-tab (λ m. step row (getD F m 0)) 32 a 0 h) at y) in
+        in-step row (step F s) b .1 (c, in-step F s c .1 (a, x, z), w)
+    fwd a b x y (no h) =
+        absurd
+        (in-none b
+        (rw (List·getD-eq-default (nextRow F row) 0 {n = a} (omega (arith, length-tab (λ m. step row (getD F m 0)) 32))) at y))
+
+    bwd : (a b c : ℕ) → In c (getD F a 0) → In b (getD row c 0) → Dec (a < 32) → In b (getD (nextRow F row) a 0)
+    bwd a b c w y (yes h) = rw (getD-tab (λ m. step row (getD F m 0)) 32 a 0 h) (in-step row (getD F a 0) b .1 (c, w, y))
+    bwd a b c w y (no h) = absurd (in-none c (rw (List·getD-eq-default F 0 {n = a} (omega arith)) at w))
+
+-- ---- what the rows mean
+
+pub turns-first : (F : List ℕ) → TurnsBy F 0 F
+unfolding via
+turns-first F = record { exact = λ s. refl }
+
+turns-more : (F row : List ℕ) (n : ℕ) → length F ≤ 32 → TurnsBy F n row → TurnsBy F (suc n) (nextRow F row)
+unfolding via
+turns-more F row n few by =
+    record { exact = λ s. step-through F row s few ∙ by .exact (step F s) ∙ ap (via F 0 n) (sym (without-none (step F s))) }
+
+turns-after : (F row : List ℕ) (d n : ℕ) → length F ≤ 32 → TurnsBy F d row → TurnsBy F (d + n) (rowAfter F row n)
+unfolding rowAfter
+turns-after F row d zero few by = let e : d ≡ d + 0 = omega arith in subst (λ (k : ℕ). TurnsBy F k row) e by
+turns-after F row d (suc n) few by =
+    let e : suc (d + n) ≡ d + suc n = omega arith in
+    subst (λ (k : ℕ). TurnsBy F k (rowAfter F row (suc n))) e (turns-more F (rowAfter F row n) (d + n) few (turns-after F row d n few by))
+
+-- the rows of a block behind a row
+pub block-turns : (F row : List ℕ) (done : ℕ) → 1 ≤ done → length F ≤ 32 → TurnsBy F (done - 1) row
+    → (k : ℕ) → k < 16 → TurnsBy F (done + k) (getD (blockFrom F row) k [])
+block-turns F row done low few by k h =
+    let e : done - 1 + suc k ≡ done + k = omega arith in
+    rw (block-row F row k h) (subst (λ (n : ℕ). TurnsBy F n (rowAfter F row (suc k))) e (turns-after F row (done - 1) (suc k) few by))
+
+-- bit b of entry m of such a row, exactly when b follows m by exactly n + 1 turns
+pub row-turns : (T : rules.Table) (n : ℕ) (row : List ℕ) → TurnsBy (T .follow) n row → (m b : ℕ) → In b (getD row m 0) ↔ Walk T Any (suc n) m b
+row-turns T n row by m b = (
+  λ x.
+      let here = in-step row (2 ^ m) b .1 (m, in-single m m .1 refl, x) in
+      let (a, y, w) = in-via T 0 n (2 ^ m) b .0 (rw (by .exact (2 ^ m)) at here) in
+      subst (λ (k : ℕ). Walk T Any (suc n) k b) (in-single a m .0 y) (walk-map (λ k _. tt) w),
+  λ w.
+      let there = in-via T 0 n (2 ^ m) b .1 (m, in-single m m .1 refl, walk-map (λ k _ e. in-none k e) w) in
+      let (a, y, z) = in-step row (2 ^ m) b .0 (rw (by .exact (2 ^ m)) there) in
+      subst (λ (k : ℕ). In b (getD row k 0)) (in-single a m .0 y) z,
+)
 
 -- ---- what a run can reach, by first modes and followers alone
 abbrev turning : ℕ → List ℕ → rules.Table
 turning first F = record { len = 0; boards = 0; cells = 0; modes = 0; first = first; follow = F; ops = [] }
 
-reach-good : (t : Table) → Good t → {a : ℕ} → Reach (turning (t .first) (t .follow)) a → Reach (tableOf t) a
-reach-good t good (begin h) = begin h
-reach-good t good (turn {a = a} {b = b} x h) =
-    let here : In b (step (t .follow) (2 ^ a)) = in-step (t .follow) (2 ^ a) b .1 (a, in-single a a .1 refl, h) in
-    let (c, y, z) = in-step (tableOf t .follow) (2 ^ a) b .0 (rw (good-step t good (2 ^ a)) at here) in
-    turn (reach-good t good x) (subst (λ (k : ℕ). In b (getD (tableOf t .follow) k 0)) (in-single c a .0 y) z)
+reach-of : (T : rules.Table) (F : List ℕ) → TurnsOf T F → {a : ℕ} → Reach (turning (T .first) F) a → Reach T a
+unfolding via
+reach-of T F turns (begin h) = begin h
+reach-of T F turns (turn {a = a} {b = b} x h) =
+    let here : In b (step F (2 ^ a)) = in-step F (2 ^ a) b .1 (a, in-single a a .1 refl, h) in
+    let (c, y, z) = in-step (T .follow) (2 ^ a) b .0 (rw (turns 0 0 (2 ^ a)) at here) in
+    turn (reach-of T F turns x) (subst (λ (k : ℕ). In b (getD (T .follow) k 0)) (in-single c a .0 y) z)
 
 -- what the loop keeps: the first modes are in it, and each of it can be reached
 pub record Growing (first : ℕ) (F : List ℕ) (all : ℕ) : Type 0 where
@@ -180,14 +173,24 @@ growing-more first F all g =
     }
 
 -- when nothing is new, it is all that a run can reach
-pub growing-end : (t : Table) → Good t → (all : ℕ) → Growing (t .first) (t .follow) all → bitOr all (step (t .follow) all) ≡ all → IsReach (tableOf t) all
-growing-end t good all g e =
-    shut-reach (tableOf t) (good .accepted) all (g .starts) (λ m h. reach-good t good (g .sound m h)) (rw (good-step t good all) at e)
+pub growing-end : (T : rules.Table) → rules.Accepted T → (F : List ℕ) → TurnsOf T F → (all : ℕ) → Growing (T .first) F all
+    → bitOr all (step F all) ≡ all → IsReach T all
+unfolding via
+growing-end T ok F turns all g e =
+    shut-reach T ok all (g .starts) (λ m h. reach-of T F turns (g .sound m h)) (rw (turns 0 0 all) at e)
 
--- ---- the modes of the operations that pass a test, with one operation more
-pub modes-next : (f : rules.Op → Bool) (os : List rules.Op) (k : ℕ) → k < length os
-    → modesOf f (take (suc k) os) ≡ bitOr (modesOf f (take k os)) (cond (f (getD os k rules.noOp)) (getD os k rules.noOp .modes) 0)
-unfolding modesOf
-modes-next f [] k h = absurd (omega arith)
-modes-next f (o ∷ os) zero h = rw (or-zero-r, or-zero-l (cond (f o) (o .modes) 0))
-modes-next f (o ∷ os) (suc k) h = rw (modes-next f os k (omega arith), or-assoc)
+-- ---- rows that agree
+pub length-row : (F row : List ℕ) → length (nextRow F row) ≡ 32
+unfolding nextRow
+length-row F row = length-tab (λ m. step row (getD F m 0)) 32
+
+pub length-block : (F row : List ℕ) (k : ℕ) → k < 16 → length (getD (blockFrom F row) k []) ≡ 32
+unfolding rowAfter
+length-block F row k h = rw (block-row F row k h) (length-row F (rowAfter F row k))
+
+-- a row that agrees with its next row is its own next row
+pub still-row : (F last next : List ℕ) → length last ≡ 32 → next ≡ nextRow F last → SameRow next last 32 → nextRow F next ≡ next
+still-row F last next long e same =
+    let long' : length next ≡ 32 = rw e (length-row F last) in
+    let is : next ≡ last = ext-getD 0 next last (omega arith) (λ m h. same m (omega arith)) in
+    ap (nextRow F) is ∙ sym e

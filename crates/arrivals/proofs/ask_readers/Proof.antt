@@ -1,78 +1,84 @@
--- The bound is raised by the first j readers.
+-- The bound is raised by the readers that were visited.
 -- Assumes nothing.
-use Prim.Native.Nat.{_-_, _≤_}
-use mathlib.Core.Path.{_≡_, subst⁻¹}
-use mathlib.Core.Bool.{true}
+use Prim.Native.Nat.{_^_, _≤_}
+use mathlib.Core.Path.{_≡_}
 use native.Mathlib.Omega.{arith}
 use lib.ListN.{getD}
-use Rattle.rules.specs.Sets.{shares}
-use Rattle.rules.specs.Table.{Op, nops}
-use Rattle.table.specs.Tables.{tableOf}
-use Rattle.arrivals.specs.Arrivals.{Raised, Each, InTime, ReaderFine}
-use Rattle.arrivals.specs.RaiseLaws.{raised-to, each-none, each-more, in-time-late}
-use Rattle.table.specs.TableLaws.{good-count, good-few, op-at, good-op}
+use Rattle.theory.specs.Tests.{without}
+use Rattle.theory.proofs.Sets.{in-small}
+use Rattle.sets.specs.Members.{rest-less}
+use Rattle.arrivals.specs.Arrivals.{ReaderFine}
+use Rattle.raises.specs.Raises.{Raised}
+use Rattle.arrivals.specs.EachLaws.{Raising, every-none, every-more, every-all}
+use Rattle.raises.specs.RaiseLaws.{raised-to, in-time-late}
 use Rattle.arrivals.proofs.ask_readers.Statement.{statement}
 use Rattle.arrivals.proofs.ask_readers.Tie as tie
 
 abbrev Inv-loop : tie.InvT-loop
-Inv-loop fresh modes end n bound t most₀ j₀ most j =
-    (j ≤ t .count) × (t .count ≤ 32) × (most ≤ t .len) × Raised bound (Each (ReaderFine (tableOf t) fresh modes end n) j) most
+Inv-loop cols readers fresh modes end n bound most₀ left₀ most left =
+    (most ≤ 1000) × Raising (ReaderFine cols (λ j. getD fresh j 0) modes end n) bound readers left most
 
 abbrev μ-loop : tie.MeasureT-loop
-μ-loop fresh modes end n bound t most₀ j₀ most j = t .count - j
+μ-loop cols readers fresh modes end n bound most₀ left₀ most left = left
 
 loop-holds : tie.Need-loop-holds Inv-loop μ-loop
-loop-holds c = (omega arith, good-few _ (c .pre .0), omega arith, each-none _)
+loop-holds c = (omega arith, every-none _ _)
+
+lowest-requires : tie.Need-lowest-requires Inv-loop μ-loop
+lowest-requires c κs = omega arith
+
+cast-j : tie.Need-cast-j Inv-loop μ-loop
+cast-j c = omega arith
 
 mul-ask-reader : tie.Need-mul-ask-reader Inv-loop μ-loop
-mul-ask-reader c = omega arith
+mul-ask-reader c = omega (arith, in-small _ 32 _ (omega arith) (c .before .before .loop .inv .1 .inside _ (c .lowest .ensures .member)))
 
 element-copy-out-ask-reader : tie.Need-element-copy-out-ask-reader Inv-loop μ-loop
-element-copy-out-ask-reader c = omega arith
+element-copy-out-ask-reader c = in-small _ 32 _ (omega arith) (c .before .before .loop .inv .1 .inside _ (c .lowest .ensures .member))
 
-mul-ask-reader-2 : tie.Need-mul-ask-reader-2 Inv-loop μ-loop
-mul-ask-reader-2 c = omega arith
-
-element-copy-out-ask-reader-2 : tie.Need-element-copy-out-ask-reader-2 Inv-loop μ-loop
-element-copy-out-ask-reader-2 c = omega arith
+start-requires : tie.Need-start-requires Inv-loop μ-loop
+start-requires c κs =
+    let m = c .before in
+    in-small _ 32 _ (omega arith) (m .before .before .loop .inv .1 .inside _ (m .lowest .ensures .member))
 
 ask-reader-requires : tie.Need-ask-reader-requires Inv-loop μ-loop
 ask-reader-requires c κs =
-    let i = c .before .before in
-    let s = i .before in
-    let high : s .args .t1 .len ≤ 1000 = s .pre .0 .accepted .len-high in
-    (omega arith, omega (arith, good-op (s .args .t1) (s .pre .0) (i .loop .j) (omega arith) .fits), omega arith, omega arith)
+    let m = c .before .before in
+    let i = m .before .before in
+    let p = i .before .pre in
+    let small = in-small (m .lowest .result) 32 _ (omega arith) (i .loop .inv .1 .inside _ (m .lowest .ensures .member)) in
+    (p .1, omega (arith, c .start .ensures, p .0 .ends (m .lowest .result) small), p .2, omega (arith, i .loop .inv .0))
 
-add-j : tie.Need-add-j Inv-loop μ-loop
-add-j c = omega arith
+rest-requires : tie.Need-rest-requires Inv-loop μ-loop
+rest-requires c κs =
+    let m = c .before .before .before in
+    in-small _ 32 _ (omega arith) (m .before .before .loop .inv .1 .inside _ (m .lowest .ensures .member))
 
 loop-less : tie.Need-loop-less Inv-loop μ-loop
-loop-less c = omega arith
+loop-less c =
+    let m = c .before .before .before .before in
+    let left = m .before .before .loop .left in
+    let e : c .rest .result ≡ without left (2 ^ m .lowest .result) = c .rest .ensures in
+    rw e (rest-less left (m .lowest .result) (m .lowest .ensures .member))
 
 loop-again : tie.Need-loop-again Inv-loop μ-loop
 loop-again c =
-    let i = c .before .before .before in
-    let s = i .before in
-    let a = s .args in
-    let j = i .loop .j in
-    let x : Raised (i .loop .most) (ReaderFine (tableOf (a .t1)) (a .fresh .now) (a .modes) (a .end) (a .n) j) (c .ask-reader .result)
-    = subst⁻¹
-    (λ (o : Op). Raised (i .loop .most) (λ q. shares (a .modes) (getD (a .fresh .now) j 0) ≡ true → InTime (a .end) (o .start) (a .n) q) (c .ask-reader .result))
-    (op-at (a .t1) j (omega arith))
-    (c .ask-reader .ensures)
+    let r = c .before in
+    let s = r .before in
+    let m = s .before .before in
+    let i = m .before .before in
+    let a = i .before .args in
+    let j = m .lowest .result in
+    let e : c .rest .result ≡ without (i .loop .left) (2 ^ j) = c .rest .ensures in
+    let x : Raised (i .loop .most) (ReaderFine (a .cols .now) (λ k. getD (a .fresh .now) k 0) (a .modes) (a .end) (a .n) j) (r .ask-reader .result)
+    = rw (s .start .ensures) at (r .ask-reader .ensures)
     in (
-      omega arith,
-      i .loop .inv .1,
-      raised-to x (a .t1 .len) (i .loop .inv .2) (λ e. in-time-late (a .end) _ (a .n) (a .t1 .len) (s .pre .1)),
-      each-more (i .loop .inv .3) x,
+      raised-to x 1000 (i .loop .inv .0) (λ _. in-time-late (a .end) _ (a .n) 1000 (i .before .pre .1)),
+      rw e (every-more j (m .lowest .ensures .member) (i .loop .inv .1) x),
     )
 
 returns : tie.Need-returns Inv-loop μ-loop
-returns c =
-    let i = c .before in
-    let s = i .before in
-    let e : i .loop .j ≡ nops (tableOf (s .args .t1)) = omega (arith, good-count _ (s .pre .0)) in
-    rw e at (i .loop .inv .3)
+returns c = let e : c .before .loop .left ≡ 0 = omega arith in every-all (rw e at (c .before .loop .inv .1))
 
 pub ask-readers-spec : {M : Type 1} → statement M
 ask-readers-spec =
@@ -81,12 +87,13 @@ ask-readers-spec =
     Inv-loop
     μ-loop
     loop-holds
+    lowest-requires
+    cast-j
     mul-ask-reader
     element-copy-out-ask-reader
-    mul-ask-reader-2
-    element-copy-out-ask-reader-2
+    start-requires
     ask-reader-requires
-    add-j
+    rest-requires
     loop-less
     loop-again
     returns)

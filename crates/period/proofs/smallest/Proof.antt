@@ -1,90 +1,63 @@
--- The search goes up from the bound of the values and passes no period that is right; it ends at the length at the latest.
+-- The sweep begins at the bound of the values, and ends at the first period from there at which the boards are right.
 -- Assumes nothing.
-use Prim.Native.Nat.{_+_, _-_}
-use mathlib.Core.Path.{_≡_, sym, _∙_}
-use mathlib.Core.Bool.{true, false}
 use native.Mathlib.Omega.{arith}
-use borrow.Author.Needs.{needs}
-use Rattle.theory.specs.Tests.{boardsFine}
 use Rattle.table.specs.Tables.{tableOf}
-use Rattle.period.specs.PeriodLaws.{Passed, passed-first, passed-more, passed-found}
+use Rattle.values.specs.Bounds.{IsBound}
+use Rattle.period.specs.PeriodLaws.{columns-asked, columns-found, first-is-period, reach-found, values-asked, boards-asked, values-found, boards-found}
+use borrow.Author.Needs.{needs}
 use Rattle.period.proofs.smallest.Statement.{statement}
 use Rattle.period.proofs.smallest.Tie as tie
 
-abbrev Inv-loop : tie.InvT-loop
-Inv-loop t reached first q₀ q = Passed (tableOf t) reached q₀ q
+columns-requires : tie.Need-columns-requires
+columns-requires c κs = let s = c .before .before in columns-asked (s .args .t) (s .pre)
 
-abbrev μ-loop : tie.MeasureT-loop
-μ-loop t reached first q₀ q = t .len + 1 - q
+slice-aggregate-reached : tie.Need-slice-aggregate-reached
+slice-aggregate-reached c = search needs
 
-reached-requires : tie.Need-reached-requires Inv-loop μ-loop
+reached-requires : tie.Need-reached-requires
 reached-requires c κs = search needs
 
-slice-aggregate-first-block : tie.Need-slice-aggregate-first-block Inv-loop μ-loop
-slice-aggregate-first-block c = search needs
+slice-aggregate-values-bound : tie.Need-slice-aggregate-values-bound
+slice-aggregate-values-bound c = search needs
 
-first-block-requires : tie.Need-first-block-requires Inv-loop μ-loop
-first-block-requires c κs = search needs
+values-bound-requires : tie.Need-values-bound-requires
+values-bound-requires c κs =
+    let k = c .before .before .before .before in
+    let s = k .before .before .before in
+    values-asked (s .args .t) (s .pre) (k .columns .result) (columns-found (s .args .t) (k .columns .ensures))
 
-values-bound-requires : tie.Need-values-bound-requires Inv-loop μ-loop
-values-bound-requires c κs = search needs
+first-right-requires : tie.Need-first-right-requires
+first-right-requires c κs =
+    let v = c .before .before in
+    let r = v .before .before .before in
+    let k = r .before .before in
+    let s = k .before .before .before in
+    let t = s .args .t in
+    let bound : IsBound (tableOf t) (r .reached .result) (v .values-bound .result)
+    = values-found t (s .pre) (k .columns .result) (columns-found (s .args .t) (k .columns .ensures)) _ _ (v .values-bound .ensures) in
+    let (long, short, ends, high) = boards-asked t (s .pre) (k .columns .result) (columns-found (s .args .t) (k .columns .ensures)) in
+    (long, short, ends, high, omega (arith, bound .low), omega (arith, bound .high, s .pre .accepted .len-low))
 
-loop-holds : tie.Need-loop-holds Inv-loop μ-loop
-loop-holds c =
-    let r = c .before .before .before .before in
-    let s = r .before in
-    passed-first (tableOf (s .args .t)) (s .pre .accepted) (r .reached .result) (r .reached .ensures) (c .values-bound .result) (c .values-bound .ensures)
-
-boards-right-requires : tie.Need-boards-right-requires Inv-loop μ-loop
-boards-right-requires c κs =
-    let v = c .before in
-    let s = v .before .before .before .before .before in
-    let some = s .pre .accepted .len-low in (
-      s .pre,
-      v .before .first-block .ensures,
-      omega (arith, v .values-bound .ensures .low, c .loop .inv .low, some),
-      omega (arith, c .loop .inv .high, some),
-    )
-
-add-q : tie.Need-add-q Inv-loop μ-loop
-add-q c =
-    let l = c .before .before in
-    omega (arith, l .loop .inv .high, l .before .before .before .before .before .before .pre .accepted .len-high)
-
-loop-less : tie.Need-loop-less Inv-loop μ-loop
-loop-less c = omega (arith, c .before .before .loop .inv .high)
-
-returns : tie.Need-returns Inv-loop μ-loop
+returns : tie.Need-returns
 returns c =
-    let l = c .before .before in
-    let v = l .before in
-    let r = v .before .before .before .before in
-    let s = r .before in
-    let fine : boardsFine (tableOf (s .args .t)) (r .reached .result) (l .loop .q) ≡ true = sym (c .before .boards-right .ensures) ∙ c .if1 .taken in
-    passed-found (tableOf (s .args .t)) (s .pre .accepted) (r .reached .result) (r .reached .ensures) (v .values-bound .result) (l .loop .q) (v .values-bound .ensures) (l .loop .inv) fine
-
-loop-again : tie.Need-loop-again Inv-loop μ-loop
-loop-again c =
-    let l = c .before .before in
-    let v = l .before in
-    let r = v .before .before .before .before in
-    let s = r .before in
-    let wrong : boardsFine (tableOf (s .args .t)) (r .reached .result) (l .loop .q) ≡ false = sym (c .before .boards-right .ensures) ∙ c .if1 .left in
-    passed-more (tableOf (s .args .t)) (s .pre .accepted) (r .reached .result) (r .reached .ensures) (v .values-bound .result) (l .loop .q) (v .values-bound .ensures) (l .loop .inv) wrong
+    let v = c .before .before .before in
+    let r = v .before .before .before in
+    let k = r .before .before in
+    let s = k .before .before .before in
+    let t = s .args .t in
+    let bound : IsBound (tableOf t) (r .reached .result) (v .values-bound .result)
+    = values-found t (s .pre) (k .columns .result) (columns-found (s .args .t) (k .columns .ensures)) _ _ (v .values-bound .ensures) in
+    let found = boards-found t (s .pre) (k .columns .result) (columns-found (s .args .t) (k .columns .ensures)) (r .reached .result) (v .values-bound .result) (c .first-right .result) (bound .low) (c .first-right .ensures) in
+    first-is-period (tableOf t) (s .pre .accepted) (r .reached .result) (reach-found t (s .pre) _ (r .reached .ensures)) (v .values-bound .result) (c .first-right .result) bound found
 
 pub smallest-spec : {M : Type 1} → statement M
 smallest-spec =
     tie.close
     (tie.spec
-    Inv-loop
-    μ-loop
+    columns-requires
+    slice-aggregate-reached
     reached-requires
-    slice-aggregate-first-block
-    first-block-requires
+    slice-aggregate-values-bound
     values-bound-requires
-    loop-holds
-    boards-right-requires
-    add-q
-    loop-less
-    loop-again
+    first-right-requires
     returns)

@@ -8,7 +8,7 @@ use lib.Bits.{bitOr, or-zero-l, or-zero-r}
 use borrow.Author.Needs.{needs}
 use Rattle.theory.specs.Tests.{without, step}
 use Rattle.theory.proofs.Sets.{in-small}
-use Rattle.sets.specs.Members.{rest-less, rest-shl, walk-on, step-none}
+use Rattle.sets.specs.Members.{rest-less, walk-on, step-none}
 use Rattle.sets.proofs.step.Statement.{statement}
 use Rattle.sets.proofs.step.Tie as tie
 
@@ -27,17 +27,14 @@ lowest-requires c κs = omega arith
 word-requires : tie.Need-word-requires Inv-loop μ-loop
 word-requires c κs = search needs
 
-shl-without : tie.Need-shl-without Inv-loop μ-loop
-shl-without c = in-small _ 32 _ (omega arith) (c .before .lowest .ensures .member)
-
-without-requires : tie.Need-without-requires Inv-loop μ-loop
-without-requires c κs = search needs
+rest-requires : tie.Need-rest-requires Inv-loop μ-loop
+rest-requires c κs = in-small _ 32 _ (omega arith) (c .before .lowest .ensures .member)
 
 loop-less : tie.Need-loop-less Inv-loop μ-loop
 loop-less c =
     let m = c .before .before .lowest in
     let left = c .before .before .before .before .loop .left in
-    let e : c .without .result ≡ without left (2 ^ m .result) = rest-shl left (m .result) (m .ensures .member) 32 (omega arith) (c .without .ensures) in
+    let e : c .rest .result ≡ without left (2 ^ m .result) = c .rest .ensures in
     rw e (rest-less left (m .result) (m .ensures .member))
 
 loop-again : tie.Need-loop-again Inv-loop μ-loop
@@ -45,7 +42,7 @@ loop-again c =
     let m = c .before .before .lowest in
     let i = c .before .before .before .before .loop in
     let F = c .before .before .before .before .before .before .args .follow .now in
-    let e : c .without .result ≡ without (i .left) (2 ^ m .result) = rest-shl (i .left) (m .result) (m .ensures .member) 32 (omega arith) (c .without .ensures) in (
+    let e : c .rest .result ≡ without (i .left) (2 ^ m .result) = c .rest .ensures in (
       omega (arith, rest-less (i .left) (m .result) (m .ensures .member)),
       walk-on (i .left) (m .result) (m .ensures .member) F (i .all) _ _ (c .before .word .ensures) e ∙ i .inv .1,
     )
@@ -65,8 +62,7 @@ step-spec =
     loop-holds
     lowest-requires
     word-requires
-    shl-without
-    without-requires
+    rest-requires
     loop-less
     loop-again
     returns)

@@ -13,7 +13,7 @@ use Rattle.turns.proofs.next_row.Statement.{statement}
 use Rattle.turns.proofs.next_row.Tie as tie
 
 abbrev Inv-loop : tie.InvT-loop
-Inv-loop follow row out₀ m₀ out m = (m ≤ 32) × (length out ≡ 32) × (take m out ≡ tab (λ i. step follow (getD row i 0)) m)
+Inv-loop follow row out₀ m₀ out m = (m ≤ 32) × (length out ≡ 32) × (take m out ≡ tab (λ i. step row (getD follow i 0)) m)
 
 abbrev μ-loop : tie.MeasureT-loop
 μ-loop follow row out₀ m₀ out m = 32 - m
@@ -45,10 +45,12 @@ loop-less c = omega arith
 
 loop-again : tie.Need-loop-again Inv-loop μ-loop
 loop-again c =
-    let i = c .before .before .before in
+    let i = c .before .before .before .before in
     let m = i .loop .m in
+    let a = i .before .args in
     let l : m < length (i .loop .out) = omega arith in
-    (omega arith, simp length-set (i .loop .inv .1), rw (add-one, take-suc-set, tab-suc, c .step .ensures, i .loop .inv .2))
+    let e : c .step .result ≡ step (a .row .now) (getD (a .follow .now) m 0) = c .step .ensures in
+    (omega arith, simp length-set (i .loop .inv .1), rw (add-one, take-suc-set, tab-suc, e, i .loop .inv .2))
 
 returns : tie.Need-returns Inv-loop μ-loop
 unfolding nextRow

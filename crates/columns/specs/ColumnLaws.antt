@@ -1,0 +1,154 @@
+-- An operation that is stored is there, and the others stay; the columns of an accepted table are short.
+-- Assumes nothing.
+use Prim.Native.Nat.{ℕ, _+_, _<_, _≤_}
+use mathlib.Core.Path.{_≡_, refl, sym, ap, subst⁻¹, _∙_}
+use mathlib.Core.List.{List, map}
+use native.Mathlib.Decide.{decLt}
+use native.Mathlib.Omega.{arith}
+use lib.ListN.{length, getD, take, set, replicate, length-set, length-map, getD-replicate, List·getD-map, List·getD-eq-default}
+use lib.Seq.{getD-set-same, getD-set-other, getD-take, length-take-le}
+use Rattle.rules.specs.Sets.{In}
+use Rattle.rules.specs.Table.{Op, Table, noOp, nops, op, endOf, heldTo, Accepted}
+use Rattle.theory.proofs.Order.{Cmp, cmp}
+use Rattle.theory.proofs.Sets.{in-none}
+use Rattle.table.specs.declared.Op as code
+use Rattle.table.specs.Tables.{opOf, blankOp}
+use Rattle.columns.specs.Columns.{opBy, opPut, Columns, Short}
+
+-- ---- one operation stored
+
+module _ (cols : List ℕ) (k : ℕ) (o : Op) where
+  abbrev c1 : List ℕ
+  c1 = set cols k (o .start)
+
+  abbrev c2 : List ℕ
+  c2 = set c1 (32 + k) (o .dur)
+
+  abbrev c3 : List ℕ
+  c3 = set c2 (64 + k) (o .boards)
+
+  abbrev c4 : List ℕ
+  c4 = set c3 (96 + k) (o .reads)
+
+  abbrev c5 : List ℕ
+  c5 = set c4 (128 + k) (o .writes)
+
+  -- a place that is none of its six stays
+  stays : (p : ℕ) → (p ≡ k → ⊥) → (p ≡ 32 + k → ⊥) → (p ≡ 64 + k → ⊥) → (p ≡ 96 + k → ⊥) → (p ≡ 128 + k → ⊥) → (p ≡ 160 + k → ⊥)
+      → getD (opPut cols k o) p 0 ≡ getD cols p 0
+  stays p e0 e1 e2 e3 e4 e5 =
+      getD-set-other c5 (160 + k) p (o .modes) 0 e5
+      ∙ getD-set-other c4 (128 + k) p (o .writes) 0 e4
+      ∙ getD-set-other c3 (96 + k) p (o .reads) 0 e3
+      ∙ getD-set-other c2 (64 + k) p (o .boards) 0 e2
+      ∙ getD-set-other c1 (32 + k) p (o .dur) 0 e1
+      ∙ getD-set-other cols k p (o .start) 0 e0
+
+  with-other : (i : ℕ) → i < 32 → k < 32 → (i ≡ k → ⊥) → opBy (opPut cols k o) i ≡ opBy cols i
+  with-other i h l e =
+      rw (
+        stays i e (λ x. omega arith) (λ x. omega arith) (λ x. omega arith) (λ x. omega arith) (λ x. omega arith),
+        stays (32 + i) (λ x. omega arith) (λ x. e (omega arith)) (λ x. omega arith) (λ x. omega arith) (λ x. omega arith) (λ x. omega arith),
+        stays (64 + i) (λ x. omega arith) (λ x. omega arith) (λ x. e (omega arith)) (λ x. omega arith) (λ x. omega arith) (λ x. omega arith),
+        stays (96 + i) (λ x. omega arith) (λ x. omega arith) (λ x. omega arith) (λ x. e (omega arith)) (λ x. omega arith) (λ x. omega arith),
+        stays (128 + i) (λ x. omega arith) (λ x. omega arith) (λ x. omega arith) (λ x. omega arith) (λ x. e (omega arith)) (λ x. omega arith),
+        stays (160 + i) (λ x. omega arith) (λ x. omega arith) (λ x. omega arith) (λ x. omega arith) (λ x. omega arith) (λ x. e (omega arith)),
+      )
+      refl
+
+  with-there : length cols ≡ 192 → k < 32 → opBy (opPut cols k o) k ≡ o
+  with-there long h =
+      rw (
+        getD-set-other c5 (160 + k) k (o .modes) 0 (λ e. omega arith) ∙ getD-set-other c4 (128 + k) k (o .writes) 0 (λ e. omega arith) ∙ getD-set-other c3 (96 + k) k (o .reads) 0 (λ e. omega arith) ∙ getD-set-other c2 (64 + k) k (o .boards) 0 (λ e. omega arith) ∙ getD-set-other c1 (32 + k) k (o .dur) 0 (λ e. omega arith) ∙ getD-set-same cols k (o .start) 0 (omega arith),
+        getD-set-other c5 (160 + k) (32 + k) (o .modes) 0 (λ e. omega arith) ∙ getD-set-other c4 (128 + k) (32 + k) (o .writes) 0 (λ e. omega arith) ∙ getD-set-other c3 (96 + k) (32 + k) (o .reads) 0 (λ e. omega arith) ∙ getD-set-other c2 (64 + k) (32 + k) (o .boards) 0 (λ e. omega arith) ∙ getD-set-same c1 (32 + k) (o .dur) 0 (simp length-set (omega arith)),
+        getD-set-other c5 (160 + k) (64 + k) (o .modes) 0 (λ e. omega arith) ∙ getD-set-other c4 (128 + k) (64 + k) (o .writes) 0 (λ e. omega arith) ∙ getD-set-other c3 (96 + k) (64 + k) (o .reads) 0 (λ e. omega arith) ∙ getD-set-same c2 (64 + k) (o .boards) 0 (simp length-set (omega arith)),
+        getD-set-other c5 (160 + k) (96 + k) (o .modes) 0 (λ e. omega arith) ∙ getD-set-other c4 (128 + k) (96 + k) (o .writes) 0 (λ e. omega arith) ∙ getD-set-same c3 (96 + k) (o .reads) 0 (simp length-set (omega arith)),
+        getD-set-other c5 (160 + k) (128 + k) (o .modes) 0 (λ e. omega arith) ∙ getD-set-same c4 (128 + k) (o .writes) 0 (simp length-set (omega arith)),
+        getD-set-same c5 (160 + k) (o .modes) 0 (simp length-set (omega arith)),
+      )
+      refl
+
+-- ---- all of them
+
+-- the first k operations are there, and nothing else
+pub record Filled (T : Table) (k : ℕ) (cols : List ℕ) : Type 0 where
+  pub long : length cols ≡ 192
+  pub there : (i : ℕ) → i < k → opBy cols i ≡ op T i
+  pub rest : (i : ℕ) → k ≤ i → i < 32 → opBy cols i ≡ noOp
+
+pub filled-none : (T : Table) → Filled T 0 (replicate 192 0)
+filled-none T = record { long = refl; there = λ i l. absurd (omega arith); rest = λ i l m. nothing i m }
+  where
+    empty : (p : ℕ) → p < 192 → getD {A = ℕ} (replicate 192 0) p 0 ≡ 0
+    empty p h = getD-replicate {A = ℕ} 192 p 0 0 h
+
+    nothing : (i : ℕ) → i < 32 → opBy (replicate 192 0) i ≡ noOp
+    nothing i h =
+        rw (
+          empty i (omega arith),
+          empty (32 + i) (omega arith),
+          empty (64 + i) (omega arith),
+          empty (96 + i) (omega arith),
+          empty (128 + i) (omega arith),
+          empty (160 + i) (omega arith),
+        )
+        refl
+
+-- the operations as the code has them
+pub op-in : (T : Table) (ops : List code.Op) (count k : ℕ) → T .ops ≡ map opOf (take count ops) → k < count → opOf (getD ops k blankOp) ≡ op T k
+op-in T ops count k e h =
+    sym (ap (λ (os : List Op). getD os k noOp) e ∙ List·getD-map opOf (take count ops) k blankOp ∙ ap opOf (getD-take count ops k blankOp h))
+
+pub ops-count : (T : Table) (ops : List code.Op) (count : ℕ) → T .ops ≡ map opOf (take count ops) → count ≤ length ops → count ≡ nops T
+ops-count T ops count e h =
+    sym (ap (λ (os : List Op). length os) e ∙ length-map (take count ops) opOf ∙ length-take-le count ops h)
+
+pub filled-more : {T : Table} {k : ℕ} {cols : List ℕ} (o : Op) → k < 32 → o ≡ op T k → Filled T k cols → Filled T (k + 1) (opPut cols k o)
+filled-more {T} {k} {cols} o h e f =
+    record {
+      long = simp length-set (f .long);
+      there = λ i l. there i l (cmp i k);
+      rest = λ i l m. with-other cols k o i m h (λ x. omega arith) ∙ f .rest i (omega arith) m;
+    }
+  where
+    there : (i : ℕ) → i < k + 1 → Cmp i k → opBy (opPut cols k o) i ≡ op T i
+    there i l (Cmp.less m) = with-other cols k o i (omega arith) h (λ x. omega arith) ∙ f .there i m
+    there i l (Cmp.same m) = rw m (with-there cols k o (f .long) h ∙ e)
+    there i l (Cmp.more m) = absurd (omega arith)
+
+pub filled-all : {T : Table} {cols : List ℕ} → Filled T (nops T) cols → Columns T cols
+filled-all {T} {cols} f = record { each = λ i h. go i h (decLt i (nops T)) }
+  where
+    go : (i : ℕ) → i < 32 → Dec (i < nops T) → opBy cols i ≡ op T i
+    go i h (yes l) = f .there i l
+    go i h (no l) = f .rest i (omega arith) h ∙ sym (List·getD-eq-default (T .ops) noOp {n = i} (omega arith))
+
+-- ---- what they hold
+
+-- an operation that has a member in one of its sets is one of the table's
+pub op-there : (T : Table) (f : Op → ℕ) → f noOp ≡ 0 → (i m : ℕ) → In m (f (op T i)) → i < nops T
+op-there T f e i m x = go (decLt i (nops T))
+  where
+    go : Dec (i < nops T) → i < nops T
+    go (yes l) = l
+    go (no n) = absurd (in-none m (rw (List·getD-eq-default (T .ops) noOp {n = i} (omega arith), e) at x))
+
+module _ {T : Table} {cols : List ℕ} (ok : Accepted T) (c : Columns T cols) where
+  -- the end of an operation, and nothing past the operations, is inside the table
+  inside : (i : ℕ) → op T i .start + op T i .dur ≤ T .len
+  inside i = go (decLt i (nops T))
+    where
+      go : Dec (i < nops T) → op T i .start + op T i .dur ≤ T .len
+      go (yes l) = ok .each i l .fits
+      go (no l) = rw (List·getD-eq-default (T .ops) noOp {n = i} (omega arith)) (omega arith)
+
+  -- every operation lets go of its boards by the end of the table
+  pub leaves-by : (i : ℕ) → i < 32 → heldTo (opBy cols i) ≤ T .len
+  leaves-by i h = subst⁻¹ (λ (o : Op). heldTo o ≤ T .len) (c .each i h) (inside i)
+
+  pub columns-short : Short cols
+  columns-short =
+      record {
+        ends = λ i h. subst⁻¹ (λ (o : Op). endOf o ≤ 1000) (c .each i h) (omega (arith, inside i, ok .len-high));
+        leaves = λ i h. omega (arith, leaves-by i h, ok .len-high);
+      }

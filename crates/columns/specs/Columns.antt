@@ -1,0 +1,33 @@
+-- A table's operations in columns: what the numbers at the places of a list of columns are of an operation.
+-- Assumes nothing.
+use Prim.Native.Nat.{ℕ, _+_, _<_, _≤_}
+use mathlib.Core.Path.{_≡_}
+use mathlib.Core.List.{List}
+use lib.ListN.{getD, set}
+use Rattle.rules.specs.Table.{Op, Table, op, endOf, heldTo}
+
+-- operation i by its columns: start, duration, boards, cells read, cells written, modes, 32 entries each
+abbrev pub opBy : List ℕ → ℕ → Op
+opBy cols i =
+    record {
+      start = getD cols i 0;
+      dur = getD cols (32 + i) 0;
+      boards = getD cols (64 + i) 0;
+      reads = getD cols (96 + i) 0;
+      writes = getD cols (128 + i) 0;
+      modes = getD cols (160 + i) 0;
+    }
+
+-- with operation k stored
+abbrev pub opPut : List ℕ → ℕ → Op → List ℕ
+opPut cols k o =
+    set (set (set (set (set (set cols k (o .start)) (32 + k) (o .dur)) (64 + k) (o .boards)) (96 + k) (o .reads)) (128 + k) (o .writes)) (160 + k) (o .modes)
+
+-- these are the columns of T; past its operations they hold nothing
+pub record Columns (T : Table) (cols : List ℕ) : Type 0 where
+  pub each : (i : ℕ) → i < 32 → opBy cols i ≡ op T i
+
+-- no operation lasts, or holds its boards, past the longest table
+pub record Short (cols : List ℕ) : Type 0 where
+  pub ends : (i : ℕ) → i < 32 → endOf (opBy cols i) ≤ 1000
+  pub leaves : (i : ℕ) → i < 32 → heldTo (opBy cols i) ≤ 1000

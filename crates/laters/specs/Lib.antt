@@ -1,0 +1,2 @@
+pub mod Laters
+pub mod LaterLaws
