@@ -4,12 +4,14 @@
 //! To add a function: declare it in `library`, give it a line in FUNCTIONS of
 //! `findings`, and compare it in the draw that has its inputs (or in one more draw).
 
-use crate::answers::{self, reply_bytes, start_bytes, starts_of, LONGEST_REPLY};
+use crate::answers::{self, reply_bytes, start_bytes, starts_of, Reply, Row, LONGEST_REPLY};
+use crate::blamed;
 use crate::examples::K1;
 use crate::findings::{lent, memory_for, planned, Findings, Seen};
 use crate::generate::{self, Seed};
 use crate::hex::{bytes_in, hex};
-use crate::judge::{bytes_of, judge, judge_numbers, put, write_table, Numbers, Refusal, Table};
+use crate::judge::{bytes_of, bytes_of_numbers, judge, judge_numbers, numbers_of, put};
+use crate::judge::{write_table, Numbers, Refusal, Table};
 use crate::library::{self, Said};
 
 /// What is drawn, in turn.
@@ -179,6 +181,7 @@ fn compare_folds(bytes: &[u8], most: usize, seed: &mut Seed, findings: &mut Find
 
 fn draw_bytes(seed: &mut Seed, findings: &mut Findings) {
     let bytes = generate::table_bytes(seed);
+    findings.note_blamed("judge", &blamed::in_table(&bytes));
     compare_judge(&bytes, findings);
     // whole tables have draws of their own; here it is the damaged ones
     if judge(&bytes).is_err() {
@@ -227,9 +230,13 @@ fn all_damages(bytes: &[u8]) -> Vec<Vec<u8>> {
     all
 }
 
+fn k1() -> Vec<u8> {
+    bytes_in(K1).expect("the example is hexadecimal text")
+}
+
 /// K1 and K1's reply, with every small damage.
 fn fixed_bytes(seed: &mut Seed, findings: &mut Findings) {
-    let k1 = bytes_in(K1).expect("the example is hexadecimal text");
+    let k1 = k1();
     for bytes in all_damages(&k1) {
         compare_judge(&bytes, findings);
         compare_at_period(&bytes, generate::period_question(seed, 5), findings);
@@ -238,6 +245,41 @@ fn fixed_bytes(seed: &mut Seed, findings: &mut Findings) {
     let reply = answers::fold(&k1).expect("K1 is accepted");
     for reply in all_damages(&reply_bytes(&reply)) {
         compare_unfold(&reply, seed, findings);
+    }
+}
+
+/// Numbers at both sides of some ranges, and of fields of one, two and four bytes.
+const VALUES: [u64; 12] = [
+    0,
+    1,
+    5,
+    17,
+    33,
+    256,
+    1000,
+    1001,
+    65535,
+    65536,
+    1 << 32,
+    u64::MAX,
+];
+
+fn pairs_of_values() -> impl Iterator<Item = (u64, u64)> {
+    VALUES.iter().flat_map(|one| VALUES.map(|two| (*one, two)))
+}
+
+/// K1 with any two of its numbers at any of these values, as numbers and as bytes.
+fn fixed_pairs(findings: &mut Findings) {
+    let k1 = numbers_of(&judge(&k1()).expect("K1 is accepted"));
+    let places = k1.before_ops() + k1.ops.len();
+    let pairs = (0..places).flat_map(|second| (0..second).map(move |first| (first, second)));
+    for (first, second) in pairs {
+        for values in pairs_of_values() {
+            let mut numbers = k1.clone();
+            (*numbers.number(first), *numbers.number(second)) = values;
+            compare_judge_numbers(&numbers, findings);
+            compare_judge(&bytes_of_numbers(&numbers), findings);
+        }
     }
 }
 
@@ -267,8 +309,19 @@ fn compare_unfold(reply: &[u8], seed: &mut Seed, findings: &mut Findings) {
     unfold.compare(reply, ROOMS, seed, findings);
 }
 
+/// A reply of one row, its period and both numbers of the row at any of the values.
+fn fixed_replies(seed: &mut Seed, findings: &mut Findings) {
+    for period in VALUES {
+        for (folded, fst) in pairs_of_values() {
+            let rows = vec![Row { folded, fst }];
+            compare_unfold(&reply_bytes(&Reply { period, rows }), seed, findings);
+        }
+    }
+}
+
 fn draw_reply(seed: &mut Seed, findings: &mut Findings) {
     let reply = generate::reply(seed);
+    findings.note_blamed("unfold", &blamed::in_reply(&reply));
     compare_unfold(&reply, seed, findings);
 }
 
@@ -326,6 +379,7 @@ fn layout_length(numbers: &Numbers) -> usize {
 
 fn draw_numbers(seed: &mut Seed, findings: &mut Findings) {
     let numbers = generate::numbers(seed);
+    findings.note_blamed("judge_numbers", &blamed::in_numbers(&numbers));
     compare_judge_numbers(&numbers, findings);
     for length in rooms(seed, layout_length(&numbers)) {
         let before = memory_for(seed, length);
@@ -340,6 +394,8 @@ fn draw_numbers(seed: &mut Seed, findings: &mut Findings) {
 pub fn against(count: u64, mut seed: Seed) -> bool {
     let mut findings = Findings::default();
     fixed_bytes(&mut seed, &mut findings);
+    fixed_pairs(&mut findings);
+    fixed_replies(&mut seed, &mut findings);
     fixed_margins(&mut seed, &mut findings);
     for turn in 0..count {
         let draw = DRAWS[turn as usize % DRAWS.len()];

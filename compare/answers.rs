@@ -1,8 +1,8 @@
 //! The whole public answers (document 01, "Runs and right periods", "Bytes",
 //! "Numbers of refusal", "The program").
 
-use crate::judge::{demand, judge, number_in, push_field, push_number, put};
-use crate::judge::{Fields, Refusal, Table, ASK, MOST_OPS, RANGE};
+use crate::judge::{demand, judge, judge_ranges, number_in, push_field, push_number, put};
+use crate::judge::{Fields, Refusal, Table, ASK, MOST_OPS};
 use crate::walks::{self, period};
 
 /// "reads at most 4096 bytes of standard input and ignores more"
@@ -82,18 +82,18 @@ pub fn plan(bytes: &[u8], out: &mut [u8]) -> Result<usize, Refusal> {
 fn read_period(fields: &mut Fields) -> Result<u64, Refusal> {
     let at = fields.offset();
     let q = number_in(fields.field(0x11, 2, 0)?);
-    demand(1 <= q && q <= 1000, RANGE, at)?;
+    judge_ranges(at, &[(2, q, 1 <= q && q <= 1000)])?;
     Ok(q)
 }
 
-/// "each folded start is below it, each unfolded start is at most 999"; gives the
-/// unfolded start.
+/// "each folded start is below it, each unfolded start is at most 999"; one that is
+/// above blames "its start index". Gives the unfolded start.
 fn read_row(fields: &mut Fields, q: u64, before: usize) -> Result<u64, Refusal> {
     let at = fields.offset();
     let value = fields.field(0x12, 4, before)?;
     let (folded, fst) = (number_in(&value[0..2]), number_in(&value[2..4]));
     let start = fst * q + folded;
-    demand(folded < q && start <= 999, RANGE, at)?;
+    judge_ranges(at, &[(2, folded, folded < q), (2, fst, start <= 999)])?;
     Ok(start)
 }
 

@@ -1,5 +1,6 @@
 //! What is seen of a call, and what was found in all of them.
 
+use crate::blamed::{Blamed, LAYOUT};
 use crate::generate::Seed;
 use crate::hex::hex;
 use crate::judge::Refusal;
@@ -30,6 +31,18 @@ const FUNCTIONS: [(&str, &[usize]); 15] = [
 const NAMES: [&str; 10] = [
     "good", "SHORT", "ORDER", "SIZE", "RANGE", "MANY", "CLASH", "RACE", "ROOM", "ASK",
 ];
+
+/// The functions whose RANGE is looked into, each with the numbers that it has to be
+/// seen to blame, by their places in LAYOUT: those of a table or of a reply. A start
+/// is blamed only where it is handed over as a number.
+const BLAMING: [(&str, &[usize]); 3] = [
+    ("judge", &[0, 1, 2, 3, 4, 5, 7, 8, 9, 10, 11]),
+    ("judge_numbers", &[0, 1, 2, 3, 4, 5, 6, 7, 8, 9, 10, 11]),
+    ("unfold", &[12, 13, 14]),
+];
+
+/// Those of LAYOUT that have others of their field behind them.
+const LEADING: [usize; 10] = [1, 2, 4, 5, 6, 7, 8, 9, 10, 13];
 
 /// How many differences are printed; the others are only counted.
 const MOST_PRINTED: u64 = 5;
@@ -88,12 +101,90 @@ pub fn lent(memory: &mut [u8]) -> &mut [u8] {
     &mut memory[GUARD..end]
 }
 
+// ---- the numbers that RANGE blames --------------------------------------
+
+/// How often a number was blamed, and how often of these it was the first of several
+/// wrong ones in its field.
+#[derive(Clone, Copy, Default)]
+struct Blames {
+    all: u64,
+    first: u64,
+}
+
+/// The numbers that were blamed, by function and by their places in LAYOUT, and how
+/// often a later field had a wrong number too.
+#[derive(Default)]
+struct Blaming {
+    blames: [[Blames; LAYOUT.len()]; BLAMING.len()],
+    two_fields: [u64; BLAMING.len()],
+}
+
+impl Blaming {
+    /// The wrong numbers of one input of a function.
+    fn note(&mut self, name: &str, wrong: &[Blamed]) {
+        let place = BLAMING.iter().position(|function| function.0 == name);
+        let place = place.expect("a function");
+        if let Some(first) = wrong.first() {
+            let blames = &mut self.blames[place][first.number];
+            let in_field = wrong.iter().filter(|it| it.a == first.a).count();
+            blames.all += 1;
+            blames.first += u64::from(in_field > 1);
+            self.two_fields[place] += u64::from(in_field < wrong.len());
+        }
+    }
+
+    fn print(&self) {
+        print!("{:<18}", "");
+        BLAMING.iter().for_each(|(name, _)| print!("{:>16}", name));
+        print!("\n{:<18}", "RANGE blames");
+        BLAMING.iter().for_each(|_| print!("     all   first"));
+        println!();
+        for (place, number) in LAYOUT.iter().enumerate() {
+            print!("{:<18}", number.name);
+            for Blames { all, first } in self.blames.iter().map(|blames| blames[place]) {
+                print!("{:>8}{:>8}", all, first);
+            }
+            println!();
+        }
+        let [table, numbers, reply] = self.two_fields;
+        println!(
+            "{:<18}{:>8}{:>16}{:>16}",
+            "in two fields", table, numbers, reply
+        );
+    }
+
+    /// What a function has to be seen to blame, and was not.
+    fn missed(&self) -> Vec<String> {
+        let mut all = Vec::new();
+        for (place, (name, numbers)) in BLAMING.iter().enumerate() {
+            for number in numbers.iter() {
+                let (blames, blamed) = (self.blames[place][*number], LAYOUT[*number].name);
+                if blames.all == 0 {
+                    all.push(format!("{} never blamed {}", name, blamed));
+                }
+                if blames.first == 0 && LEADING.contains(number) {
+                    all.push(format!(
+                        "{} never blamed {}, first of several",
+                        name, blamed
+                    ));
+                }
+            }
+            if self.two_fields[place] == 0 {
+                all.push(format!("{} never had two wrong fields", name));
+            }
+        }
+        all
+    }
+}
+
 // ---- what was found -----------------------------------------------------
 
-/// How often each function gave each number, and how many answers differ.
+/// How often each function gave each number, the numbers that RANGE blames, and how
+/// many answers differ.
 #[derive(Default)]
 pub struct Findings {
     met: [[u64; NAMES.len()]; FUNCTIONS.len()],
+    blaming: Blaming,
     pub differences: u64,
 }
 
@@ -113,7 +204,12 @@ impl Findings {
         }
     }
 
-    /// The table of what was met.
+    /// The wrong numbers of an input of a function, as the planner blames them.
+    pub fn note_blamed(&mut self, name: &str, wrong: &[Blamed]) {
+        self.blaming.note(name, wrong);
+    }
+
+    /// The tables of what was met.
     pub fn print(&self) {
         print!("{:<18}", "");
         NAMES.iter().for_each(|name| print!("{:>8}", name));
@@ -125,9 +221,10 @@ impl Findings {
                 .for_each(|count| print!("{:>8}", count));
             println!();
         }
+        self.blaming.print();
     }
 
-    /// The numbers that a function has to be seen to give, and was not.
+    /// The numbers that a function has to be seen to give or to blame, and was not.
     pub fn missed(&self) -> Vec<String> {
         let mut all = Vec::new();
         for (place, (name, numbers)) in FUNCTIONS.iter().enumerate() {
@@ -137,6 +234,7 @@ impl Findings {
                 }
             }
         }
+        all.extend(self.blaming.missed());
         all
     }
 }

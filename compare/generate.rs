@@ -2,8 +2,10 @@
 //! as numbers, questions. The same seed gives the same inputs.
 
 use crate::answers::{plan, reply_bytes, Reply, Row};
-use crate::judge::{bytes_of, judge_pairs, number_in, numbers_of, Numbers, Op, Table};
+use crate::judge::{bytes_of, bytes_of_numbers, judge_pairs, number_in, numbers_of};
+use crate::judge::{Numbers, Op, Table, NUMBERS_PER_OP};
 use crate::runs::enough_cycles;
+use std::ops::Range;
 
 // ---- the seed -----------------------------------------------------------
 
@@ -711,6 +713,119 @@ pub fn edges(seed: &mut Seed) -> Vec<u8> {
     bytes_of(&edge_table(seed))
 }
 
+// ---- several wrong numbers ----------------------------------------------
+
+/// A set with a member beyond its count; of one that may use all of its bits, beyond
+/// these.
+fn set_beyond(seed: &mut Seed, set: u64, count: u64, bits: u64) -> u64 {
+    set | 1 << seed.between(count, count.max(bits - 1))
+}
+
+/// A set that may not be empty: empty, or with a member beyond its count.
+fn wrong_set(seed: &mut Seed, set: u64, count: u64, bits: u64) -> u64 {
+    if count == bits || seed.once_in(2) {
+        return 0;
+    }
+    set_beyond(seed, set, count, bits)
+}
+
+/// A number of the head put out of its range, by its place in layout order.
+fn spoil_head(seed: &mut Seed, modes: u64, place: usize, number: &mut u64) {
+    *number = match place {
+        0 => seed.one_of(&[0, 1001, 65535]),
+        1 => seed.one_of(&[0, 17, 255]),
+        2 => seed.one_of(&[33, 255]),
+        3 => seed.one_of(&[0, 33, 255]),
+        _ => wrong_set(seed, *number, modes, 32),
+    };
+}
+
+/// One of an operation's six numbers put out of its range; of the start or the
+/// duration, so that the operation ends after p.
+fn spoil_op(seed: &mut Seed, table: &Table, six: &mut [u64], place: usize) {
+    let (start, dur, past) = (six[0], six[1], table.len + 1);
+    six[place] = match place {
+        0 => seed.one_of(&[past.saturating_sub(dur), past - 1, past, 65536 - dur, 65535]),
+        1 => seed.one_of(&[0, past.saturating_sub(start), 65535]),
+        2 => wrong_set(seed, six[2], table.boards, 16),
+        3 | 4 => set_beyond(seed, six[place], table.cells, 32),
+        _ => wrong_set(seed, six[5], table.modes, 32),
+    };
+}
+
+/// A number put out of its range in the table that is given.
+fn spoil(seed: &mut Seed, table: &Table, numbers: &mut Numbers, place: usize) {
+    match place.checked_sub(numbers.before_ops()) {
+        None => spoil_head(seed, table.modes, place, numbers.number(place)),
+        Some(place) => {
+            let first = place - place % NUMBERS_PER_OP;
+            let six = &mut numbers.ops[first..first + NUMBERS_PER_OP];
+            spoil_op(seed, table, six, place - first);
+        }
+    }
+}
+
+/// The numbers of one field, by their places in layout order: the length, the counts,
+/// the sets of modes or the last few of them, or an operation or its sets.
+fn numbers_of_field(seed: &mut Seed, numbers: &Numbers) -> Range<usize> {
+    let before_ops = numbers.before_ops();
+    match seed.below(8) {
+        0 => 0..1,
+        1 | 2 => 1..4,
+        3 => 4..before_ops,
+        4 => 4.max(before_ops - 3)..before_ops,
+        _ => {
+            let ops = numbers.ops.len() / NUMBERS_PER_OP;
+            let first = before_ops + NUMBERS_PER_OP * seed.below(ops as u64) as usize;
+            let dates = if seed.once_in(3) { 2 } else { 0 };
+            first + dates..first + NUMBERS_PER_OP
+        }
+    }
+}
+
+/// So many of the places, or all where there are no more.
+fn some_places(seed: &mut Seed, places: Range<usize>, most: u64) -> Vec<usize> {
+    let mut some: Vec<usize> = places.collect();
+    while some.len() as u64 > most {
+        some.remove(seed.below(some.len() as u64) as usize);
+    }
+    some
+}
+
+/// A good table as numbers, with up to three of them wrong in one field or in each of
+/// two, and the places of these.
+fn spoiled(seed: &mut Seed) -> (Numbers, Vec<usize>) {
+    let table = good(seed);
+    let mut numbers = numbers_of(&table);
+    let mut places = Vec::new();
+    for _ in 0..seed.between(1, 2) {
+        let field = numbers_of_field(seed, &numbers);
+        let most = seed.between(1, 3);
+        places.extend(some_places(seed, field, most));
+    }
+    for place in &places {
+        spoil(seed, &table, &mut numbers, *place);
+    }
+    (numbers, places)
+}
+
+/// Its bytes.
+pub fn spoiled_bytes(seed: &mut Seed) -> Vec<u8> {
+    bytes_of_numbers(&spoiled(seed).0)
+}
+
+/// Its numbers, some of the wrong ones too large for their fields.
+pub fn spoiled_numbers(seed: &mut Seed) -> Numbers {
+    let (mut numbers, places) = spoiled(seed);
+    for place in places {
+        if seed.once_in(3) {
+            let number = numbers.number(place);
+            *number = too_large(seed, *number);
+        }
+    }
+    numbers
+}
+
 // ---- counts of operations -----------------------------------------------
 
 /// A table with exactly so many operations, none of which clash or race unless
@@ -902,7 +1017,7 @@ fn damage(seed: &mut Seed, bytes: &[u8]) -> Vec<u8> {
 
 /// A table as bytes, of any kind.
 pub fn table_bytes(seed: &mut Seed) -> Vec<u8> {
-    match seed.below(24) {
+    match seed.below(28) {
         0..=7 => whole(seed),
         8 | 9 => clashing(seed),
         10 | 11 => racing(seed),
@@ -910,7 +1025,8 @@ pub fn table_bytes(seed: &mut Seed) -> Vec<u8> {
         13..=15 => edges(seed),
         16 => counted(seed),
         17 => noise(seed),
-        18 => {
+        18..=21 => spoiled_bytes(seed),
+        22 => {
             let bytes = counted(seed);
             damage_or_keep(seed, bytes)
         }
@@ -987,6 +1103,33 @@ pub fn edge_reply(seed: &mut Seed) -> Vec<u8> {
     reply_bytes(&reply)
 }
 
+/// A folded start that is not below the period, a start index with which any start is
+/// too late, or both.
+fn spoil_row(seed: &mut Seed, period: u64, row: &mut Row) {
+    let kind = seed.below(4);
+    if kind != 0 {
+        row.folded = seed.one_of(&[period, period + 1, 1000, 65535]);
+    }
+    if kind != 1 {
+        row.fst = seed.one_of(&[999 / period + 1, 1000, 65535]);
+    }
+}
+
+/// A reply with wrong numbers in up to three rows, sometimes with a wrong period too.
+pub fn spoiled_reply(seed: &mut Seed) -> Vec<u8> {
+    let rows = seed.between(1, 8);
+    let mut reply = free_reply(seed, rows);
+    let period = reply.period;
+    for _ in 0..seed.between(1, 3) {
+        let which = seed.below(rows) as usize;
+        spoil_row(seed, period, &mut reply.rows[which]);
+    }
+    if seed.once_in(6) {
+        reply.period = seed.one_of(&[0, 1001, 65535]);
+    }
+    reply_bytes(&reply)
+}
+
 /// A reply with none, 31, 32, 33 or 34 rows, sometimes cut.
 pub fn counted_reply(seed: &mut Seed) -> Vec<u8> {
     let rows = seed.one_of(&[0, 31, 32, 33, 33, 34]);
@@ -1002,11 +1145,12 @@ pub fn counted_reply(seed: &mut Seed) -> Vec<u8> {
 
 /// A reply of any kind.
 pub fn reply(seed: &mut Seed) -> Vec<u8> {
-    match seed.below(12) {
+    match seed.below(14) {
         0..=4 => whole_reply(seed),
         5 | 6 => edge_reply(seed),
         7 | 8 => counted_reply(seed),
-        9 => {
+        9 | 10 => spoiled_reply(seed),
+        11 => {
             let bytes = counted_reply(seed);
             damage_or_keep(seed, bytes)
         }
@@ -1120,10 +1264,11 @@ pub fn damaged_numbers(seed: &mut Seed) -> Numbers {
 
 /// Numbers of any kind.
 pub fn numbers(seed: &mut Seed) -> Numbers {
-    match seed.below(10) {
+    match seed.below(12) {
         0..=3 => whole_numbers(seed),
         4 | 5 => numbers_of(&edge_table(seed)),
         6 => counted_numbers(seed),
+        7 | 8 => spoiled_numbers(seed),
         _ => damaged_numbers(seed),
     }
 }

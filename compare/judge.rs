@@ -71,6 +71,27 @@ pub struct Numbers {
     pub ops: Vec<u64>,
 }
 
+impl Numbers {
+    /// How many numbers come before those of the operations.
+    pub fn before_ops(&self) -> usize {
+        5 + self.follow.len()
+    }
+
+    /// The number at this place in layout order, over all fields.
+    pub fn number(&mut self, place: usize) -> &mut u64 {
+        let before_ops = self.before_ops();
+        match place {
+            0 => &mut self.p,
+            1 => &mut self.boards,
+            2 => &mut self.cells,
+            3 => &mut self.modes,
+            4 => &mut self.first,
+            _ if place < before_ops => &mut self.follow[place - 5],
+            _ => &mut self.ops[place - before_ops],
+        }
+    }
+}
+
 impl Op {
     /// "from t up to but not including t + d": this is t + d.
     pub fn end(&self) -> u64 {
@@ -111,9 +132,32 @@ pub fn number_in(bytes: &[u8]) -> u64 {
 
 // ---- ranges -------------------------------------------------------------
 
-/// The number can be written in so many bits.
-fn fits(number: u64, bits: u32) -> bool {
-    number < 1 << bits
+/// A number as it stands in a field: how many bytes it has there, the number,
+/// and whether it is in its range.
+pub type Ranged = (u32, u64, bool);
+
+/// The number can be written in so many bytes.
+fn fits(number: u64, bytes: u32) -> bool {
+    number < 1 << (8 * bytes)
+}
+
+/// The numbers of the field at this offset, in layout order. "In RANGE, let b be
+/// the offset of the first byte of the first wrong number" (document 02, No. 7).
+/// Whatever its range, "a number too large for its field" is wrong.
+pub fn judge_ranges(at: u64, numbers: &[Ranged]) -> Result<(), Refusal> {
+    // behind "a one-byte tag, a two-byte length"
+    let mut b = at + 3;
+    for (bytes, number, in_range) in numbers {
+        if !in_range || !fits(*number, *bytes) {
+            return Err(Refusal {
+                number: RANGE,
+                a: at,
+                b,
+            });
+        }
+        b += u64::from(*bytes);
+    }
+    Ok(())
 }
 
 /// "A set names nothing beyond the table's counts."
@@ -121,45 +165,55 @@ fn names_within(set: u64, count: u64) -> bool {
     (0..64).all(|member| !has(set, member) || member < count)
 }
 
+/// A set that is "not empty", within the count.
+fn filled_within(set: u64, count: u64) -> bool {
+    set != 0 && names_within(set, count)
+}
+
 /// "table length p, in ticks | 1 to 1000"
-fn length_in_range(p: u64) -> bool {
-    fits(p, 16) && 1 <= p && p <= 1000
+fn judge_length(at: u64, p: u64) -> Result<(), Refusal> {
+    judge_ranges(at, &[(2, p, 1 <= p && p <= 1000)])
 }
 
 /// "boards 1 to 16", "cells 0 to 32", "modes 1 to 32"
-fn counts_in_range(boards: u64, cells: u64, modes: u64) -> bool {
-    let all_fit = fits(boards, 8) && fits(cells, 8) && fits(modes, 8);
-    all_fit && 1 <= boards && boards <= 16 && cells <= 32 && 1 <= modes && modes <= 32
-}
-
-/// A set of modes, "not empty", within the count.
-fn modes_in_range(set: u64, modes: u64) -> bool {
-    fits(set, 32) && set != 0 && names_within(set, modes)
+fn judge_counts(at: u64, boards: u64, cells: u64, modes: u64) -> Result<(), Refusal> {
+    let numbers = [
+        (1, boards, 1 <= boards && boards <= 16),
+        (1, cells, cells <= 32),
+        (1, modes, 1 <= modes && modes <= 32),
+    ];
+    judge_ranges(at, &numbers)
 }
 
 /// "a set of first modes, not empty, and for each mode the set of modes that
 /// may follow, not empty"
-fn turns_in_range(modes: u64, first: u64, follow: &[u64]) -> bool {
-    modes_in_range(first, modes) && follow.iter().all(|set| modes_in_range(*set, modes))
+fn judge_turns(at: u64, modes: u64, first: u64, follow: &[u64]) -> Result<(), Refusal> {
+    let sets = std::iter::once(&first).chain(follow);
+    let numbers: Vec<Ranged> = sets
+        .map(|set| (4, *set, filled_within(*set, modes)))
+        .collect();
+    judge_ranges(at, &numbers)
 }
 
-/// "a duration d of at least 1, with t + d at most p"
-fn dates_in_range(p: u64, op: &Op) -> bool {
-    fits(op.start, 16) && fits(op.dur, 16) && 1 <= op.dur && op.start + op.dur <= p
+/// "a duration d of at least 1, with t + d at most p". The sum of numbers handed
+/// over may be beyond 64 bits; it is above p then as well.
+fn in_time(p: u64, op: &Op) -> bool {
+    1 <= op.dur && op.start.saturating_add(op.dur) <= p
 }
 
-/// "a set of boards, not empty; cells it reads; cells it writes (either set may
-/// be empty, and they may meet); a set of modes, not empty"
-fn sets_in_range(table: &Table, op: &Op) -> bool {
-    let boards = fits(op.boards, 16) && op.boards != 0 && names_within(op.boards, table.boards);
-    let reads = fits(op.reads, 32) && names_within(op.reads, table.cells);
-    let writes = fits(op.writes, 32) && names_within(op.writes, table.cells);
-    boards && reads && writes && modes_in_range(op.modes, table.modes)
-}
-
-/// The ranges of one operation field.
-fn op_in_range(table: &Table, op: &Op) -> bool {
-    dates_in_range(table.len, op) && sets_in_range(table, op)
+/// "An operation that ends after p blames its duration": a start has no range of
+/// its own. "A set of boards, not empty; cells it reads; cells it writes (either
+/// set may be empty, and they may meet); a set of modes, not empty".
+fn judge_op(at: u64, table: &Table, op: &Op) -> Result<(), Refusal> {
+    let numbers = [
+        (2, op.start, true),
+        (2, op.dur, in_time(table.len, op)),
+        (2, op.boards, filled_within(op.boards, table.boards)),
+        (4, op.reads, names_within(op.reads, table.cells)),
+        (4, op.writes, names_within(op.writes, table.cells)),
+        (4, op.modes, filled_within(op.modes, table.modes)),
+    ];
+    judge_ranges(at, &numbers)
 }
 
 // ---- fields as bytes ----------------------------------------------------
@@ -205,7 +259,7 @@ impl<'a> Fields<'a> {
 fn read_length(fields: &mut Fields) -> Result<u64, Refusal> {
     let at = fields.offset();
     let p = number_in(fields.field(0x01, 2, 0)?);
-    demand(length_in_range(p), RANGE, at)?;
+    judge_length(at, p)?;
     Ok(p)
 }
 
@@ -218,7 +272,7 @@ fn read_counts(fields: &mut Fields) -> Result<(u64, u64, u64), Refusal> {
         u64::from(value[1]),
         u64::from(value[2]),
     );
-    demand(counts_in_range(boards, cells, modes), RANGE, at)?;
+    judge_counts(at, boards, cells, modes)?;
     Ok((boards, cells, modes))
 }
 
@@ -229,7 +283,7 @@ fn read_turns(fields: &mut Fields, modes: u64) -> Result<(u64, Vec<u64>), Refusa
     let value = fields.field(0x03, 4 + 4 * modes as usize, 0)?;
     let first = number_in(&value[0..4]);
     let follow: Vec<u64> = value[4..].chunks(4).map(number_in).collect();
-    demand(turns_in_range(modes, first, &follow), RANGE, at)?;
+    judge_turns(at, modes, first, &follow)?;
     Ok((first, follow))
 }
 
@@ -250,7 +304,7 @@ fn read_ops(fields: &mut Fields, table: &mut Table) -> Result<(), Refusal> {
     loop {
         let at = fields.offset();
         let op = op_in(fields.field(0x04, 18, table.ops.len())?);
-        demand(op_in_range(table, &op), RANGE, at)?;
+        judge_op(at, table, &op)?;
         table.ops.push(op);
         if fields.at_end() {
             return Ok(());
@@ -344,18 +398,10 @@ fn op_offset(modes: u64, index: u64) -> u64 {
 /// Fields 01 to 03. "A wrong count of follower words is SIZE, a number too large
 /// for its field RANGE"; within a field the length comes before the ranges.
 fn judge_head(numbers: &Numbers) -> Result<(), Refusal> {
-    demand(length_in_range(numbers.p), RANGE, 0)?;
-    demand(
-        counts_in_range(numbers.boards, numbers.cells, numbers.modes),
-        RANGE,
-        5,
-    )?;
+    judge_length(0, numbers.p)?;
+    judge_counts(5, numbers.boards, numbers.cells, numbers.modes)?;
     demand(numbers.follow.len() as u64 == numbers.modes, SIZE, TURNS_AT)?;
-    demand(
-        turns_in_range(numbers.modes, numbers.first, &numbers.follow),
-        RANGE,
-        TURNS_AT,
-    )
+    judge_turns(TURNS_AT, numbers.modes, numbers.first, &numbers.follow)
 }
 
 /// The six numbers of an operation in layout order.
@@ -379,25 +425,30 @@ fn judge_ops(table: &mut Table, numbers: &[u64]) -> Result<(), Refusal> {
         demand(index < MOST_OPS, MANY, at)?;
         demand(given.len() == NUMBERS_PER_OP, SHORT, at)?;
         let op = op_of(given);
-        demand(op_in_range(table, &op), RANGE, at)?;
+        judge_op(at, table, &op)?;
         table.ops.push(op);
     }
     Ok(())
 }
 
-/// "A table handed over as numbers ... is judged as if first written in this
-/// layout and then read."
-pub fn judge_numbers(numbers: &Numbers) -> Result<Table, Refusal> {
-    judge_head(numbers)?;
-    let mut table = Table {
+/// The table that the numbers are, with these operations.
+fn table_with(numbers: &Numbers, ops: Vec<Op>) -> Table {
+    Table {
         len: numbers.p,
         boards: numbers.boards,
         cells: numbers.cells,
         modes: numbers.modes,
         first: numbers.first,
         follow: numbers.follow.clone(),
-        ops: Vec::new(),
-    };
+        ops,
+    }
+}
+
+/// "A table handed over as numbers ... is judged as if first written in this
+/// layout and then read."
+pub fn judge_numbers(numbers: &Numbers) -> Result<Table, Refusal> {
+    judge_head(numbers)?;
+    let mut table = table_with(numbers, Vec::new());
     judge_ops(&mut table, &numbers.ops)?;
     judge_pairs(&table)?;
     Ok(table)
@@ -475,6 +526,13 @@ pub fn numbers_of(table: &Table) -> Numbers {
         follow: table.follow.clone(),
         ops,
     }
+}
+
+/// The numbers in the layout, as `bytes_of` writes a table; an operation with
+/// numbers missing is left out.
+pub fn bytes_of_numbers(numbers: &Numbers) -> Vec<u8> {
+    let whole = numbers.ops.chunks_exact(NUMBERS_PER_OP);
+    bytes_of(&table_with(numbers, whole.map(op_of).collect()))
 }
 
 /// "Success writes the stated bytes from the front and leaves the rest of the

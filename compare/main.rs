@@ -25,6 +25,7 @@
 mod against;
 mod answers;
 mod asking;
+mod blamed;
 mod bytewise;
 mod examples;
 mod findings;

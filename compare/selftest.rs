@@ -4,6 +4,7 @@
 use crate::answers::{boards_fit, margin, plan, start_bytes, text, unfold, values_arrive};
 use crate::answers::{LONGEST_REPLY, LONGEST_STARTS, LONGEST_TABLE, LONGEST_TEXT};
 use crate::asking::lines_are_as_said;
+use crate::blamed;
 use crate::examples::K1;
 use crate::generate::{self, Seed};
 use crate::hex::bytes_in;
@@ -287,7 +288,7 @@ fn points_of_size(tally: &mut Tally) {
     tally.reply_refused("6 reply", &joined(&reply, "12"), (1, 229, 0));
     tally.reply_refused("6 reply", &joined(&reply, "12 00 00"), (5, 229, 0));
     tally.reply_refused("6 reply", &joined(&reply, "11 00 02"), (2, 229, 0));
-    tally.refused("7", &from_hex("01 00 02 00 00"), (4, 0, 0));
+    tally.refused("7", &from_hex("01 00 02 00 00"), (4, 0, 3));
 }
 
 const RACE_THEN_CLASH: &str = "0100020004 020003040101 0300080000000100000001 \
@@ -303,11 +304,11 @@ fn points_of_pairs(tally: &mut Tally) {
     tally.refused("8 race", first_two, (7, 0, 1));
     let mut wrap = k1();
     wrap[25..29].copy_from_slice(&[0xff, 0xff, 0, 1]);
-    tally.refused("9", &wrap, (4, 22, 0));
+    tally.refused("9", &wrap, (4, 22, 27));
     tally.reply_refused(
         "9",
         &from_hex("11 00 02 03 e8 12 00 04 00 00 ff ff"),
-        (4, 5, 0),
+        (4, 5, 10),
     );
 }
 
@@ -392,7 +393,7 @@ fn points_of_large_numbers(tally: &mut Tally) {
             p: 65541,
             ..k1_numbers()
         },
-        (4, 0, 0),
+        (4, 0, 3),
     );
     tally.numbers_refused(
         "13",
@@ -400,7 +401,7 @@ fn points_of_large_numbers(tally: &mut Tally) {
             boards: 257,
             ..k1_numbers()
         },
-        (4, 5, 0),
+        (4, 5, 8),
     );
     let many = Numbers {
         follow: vec![1; 16385],
@@ -413,15 +414,196 @@ fn points_of_large_numbers(tally: &mut Tally) {
             first: (1 << 32) + 1,
             ..k1_numbers()
         },
-        (4, 11, 0),
+        (4, 11, 14),
     );
-    for place in 0..6 {
+    for (place, b) in [25, 27, 29, 31, 35, 39].into_iter().enumerate() {
         let mut ops = k1_numbers().ops;
         ops[place] += 1 << 32;
-        tally.numbers_refused("13", &k1_ops(ops), (4, 22, 0));
+        tally.numbers_refused("13", &k1_ops(ops), (4, 22, b));
         let mut ops = k1_numbers().ops;
         ops[place] = u64::MAX;
-        tally.numbers_refused("13", &k1_ops(ops), (4, 22, 0));
+        tally.numbers_refused("13", &k1_ops(ops), (4, 22, b));
+    }
+}
+
+// ---- the places where a number is wrong ---------------------------------
+
+/// The bytes with others from an offset on.
+fn changed(bytes: &[u8], at: usize, digits: &str) -> Vec<u8> {
+    let (mut all, new) = (bytes.to_vec(), from_hex(digits));
+    all[at..at + new.len()].copy_from_slice(&new);
+    all
+}
+
+/// Bytes from an offset on, and the field and the number in which they are wrong.
+type Wrong = (usize, &'static str, u64, u64);
+
+/// The table with each of the changes is refused where it says so.
+fn check_wrong(tally: &mut Tally, table: &[u8], wrong: &[Wrong]) {
+    for (at, digits, a, b) in wrong {
+        tally.refused(digits, &changed(table, *at, digits), (4, *a, *b));
+    }
+}
+
+/// The table with each of the changes is accepted.
+fn check_right(tally: &mut Tally, table: &[u8], right: &[(usize, &str)]) {
+    for (at, digits) in right {
+        tally.check(digits, judge(&changed(table, *at, digits)).is_ok());
+    }
+}
+
+/// In fields 01 to 03 of K1: both sides of each range, then several wrong numbers.
+const WRONG_HEADS: [Wrong; 22] = [
+    (3, "0000", 0, 3),
+    (3, "03e9", 0, 3),
+    (3, "ffff", 0, 3),
+    (8, "00", 5, 8),
+    (8, "11", 5, 8),
+    (9, "21", 5, 9),
+    (9, "ff", 5, 9),
+    (10, "00", 5, 10),
+    (10, "21", 5, 10),
+    (14, "00000000", 11, 14),
+    (14, "00000002", 11, 14),
+    (14, "80000001", 11, 14),
+    (18, "00000000", 11, 18),
+    (18, "00000002", 11, 18),
+    (8, "00 21 00", 5, 8),
+    (8, "11 00 21", 5, 8),
+    (8, "10 21 00", 5, 9),
+    (8, "10 20 21", 5, 10),
+    (14, "00000000 00000000", 11, 14),
+    (14, "00000003 00000002", 11, 14),
+    (14, "00000001 00000003", 11, 18),
+    (3, "0000 020003 00", 0, 3),
+];
+
+/// In the followers of the second and of the last of K7's three modes.
+const WRONG_FOLLOWERS: [Wrong; 6] = [
+    (22, "00000000", 11, 22),
+    (22, "00000008", 11, 22),
+    (22, "00000008 00000000", 11, 22),
+    (26, "00000000", 11, 26),
+    (26, "00000008", 11, 26),
+    (26, "00000008 040012 0006", 11, 26),
+];
+
+fn places_in_head(tally: &mut Tally) {
+    check_wrong(tally, &k1(), &WRONG_HEADS);
+    check_right(tally, &k1(), &[(3, "03e8"), (3, "0004"), (8, "10 20")]);
+    let k7 = from_hex(include_str!("../examples/k07.hex"));
+    check_wrong(tally, &k7, &WRONG_FOLLOWERS);
+    check_right(tally, &k7, &[(22, "00000007"), (26, "00000004")]);
+}
+
+/// In field 04 of K1. "An operation that ends after p blames its duration", also one that
+/// starts at p or later.
+const WRONG_OPS: [Wrong; 22] = [
+    (27, "0000", 22, 27),
+    (27, "0005", 22, 27),
+    (27, "ffff", 22, 27),
+    (25, "0003", 22, 27),
+    (25, "0005 0001", 22, 27),
+    (25, "0005 0000", 22, 27),
+    (25, "ffff 0001", 22, 27),
+    (25, "ffff ffff", 22, 27),
+    (3, "0003", 22, 27),
+    (29, "0000", 22, 29),
+    (29, "0002", 22, 29),
+    (29, "8001", 22, 29),
+    (31, "00000001", 22, 31),
+    (31, "80000000", 22, 31),
+    (35, "00000001", 22, 35),
+    (39, "00000000", 22, 39),
+    (39, "00000002", 22, 39),
+    (25, "0005 0001 0000 00000001 00000001 00000000", 22, 27),
+    (27, "0004 0000 00000001 00000001 00000000", 22, 29),
+    (29, "0001 00000001 00000001 00000000", 22, 31),
+    (31, "00000000 00000001 00000000", 22, 35),
+    (18, "00000000 040012 0001 0005", 11, 18),
+];
+
+/// In K1's operation twice: in the second one, and in both.
+const WRONG_SECONDS: [Wrong; 4] = [
+    (48, "0000", 43, 48),
+    (50, "0002 00000001", 43, 50),
+    (60, "00000002", 43, 60),
+    (39, "00000000 040012 0001 0005", 22, 39),
+];
+
+fn places_in_op(tally: &mut Tally) {
+    check_wrong(tally, &k1(), &WRONG_OPS);
+    check_wrong(tally, &k1_times(2), &WRONG_SECONDS);
+    check_right(tally, &k1(), &[(27, "0004"), (25, "0002")]);
+    check_right(tally, &k1(), &[(25, "0004 0001"), (25, "0000 0005")]);
+}
+
+/// In a reply of two rows. "a reply's unfolded start above 999 its start index"
+const WRONG_REPLIES: [Wrong; 16] = [
+    (3, "0000", 0, 3),
+    (3, "03e9", 0, 3),
+    (3, "03e9 120004 ffff ffff", 0, 3),
+    (3, "0001", 5, 8),
+    (8, "0003", 5, 8),
+    (8, "ffff", 5, 8),
+    (8, "0001 014d", 5, 10),
+    (8, "0002 ffff", 5, 10),
+    (8, "0003 014d", 5, 8),
+    (8, "ffff ffff", 5, 8),
+    (3, "03e8 120004 03e8 0000", 5, 8),
+    (3, "03e8 120004 0000 0001", 5, 10),
+    (15, "0003 0000", 12, 15),
+    (15, "0003 ffff", 12, 15),
+    (15, "0001 014d", 12, 17),
+    (10, "ffff 120004 0003", 5, 10),
+];
+
+fn places_in_reply(tally: &mut Tally) {
+    let reply = from_hex("11 00 02 00 03 12 00 04 00 01 00 00 12 00 04 00 02 00 05");
+    for (at, digits, a, b) in WRONG_REPLIES {
+        tally.reply_refused(digits, &changed(&reply, at, digits), (4, a, b));
+    }
+    for (at, digits) in [
+        (3, "03e8 120004 03e7 0000 120004 0000 0000"),
+        (3, "0001 120004 0000 03e7 120004 0000 0000"),
+        (8, "0002"),
+        (8, "0000 014d"),
+    ] {
+        let good = unfold(&changed(&reply, at, digits), &mut [0; 4]);
+        tally.check(digits, good == Ok(4));
+    }
+}
+
+/// Numbers handed over: K1's with others at some places in layout order, and the field and the
+/// number in which they are wrong. A start that is too large for its field is blamed itself.
+const WRONG_NUMBERS: [(&[(usize, u64)], u64, u64); 18] = [
+    (&[(0, 0)], 0, 3),
+    (&[(0, 65541), (1, 257), (6, 65537)], 0, 3),
+    (&[(1, 257), (2, 256), (3, 257)], 5, 8),
+    (&[(2, 256), (3, 257)], 5, 9),
+    (&[(3, 257)], 5, 10),
+    (&[(4, 0x1_0000_0001), (5, 0x1_0000_0001)], 11, 14),
+    (&[(5, 0x1_0000_0001), (6, 65537)], 11, 18),
+    (&[(6, 65537)], 22, 25),
+    (&[(6, 65536), (7, 0)], 22, 25),
+    (&[(6, u64::MAX), (7, u64::MAX), (8, 0)], 22, 25),
+    (&[(6, 65535), (8, 0)], 22, 27),
+    (&[(6, 5), (7, 1)], 22, 27),
+    (&[(7, 65539), (11, 0)], 22, 27),
+    (&[(7, u64::MAX)], 22, 27),
+    (&[(8, 65537), (9, 0x1_0000_0000)], 22, 29),
+    (&[(9, 0x1_0000_0000), (10, 0x1_0000_0000)], 22, 31),
+    (&[(10, 0x1_0000_0000), (11, 2)], 22, 35),
+    (&[(11, 0x1_0000_0001)], 22, 39),
+];
+
+fn places_of_numbers(tally: &mut Tally) {
+    for (changes, a, b) in WRONG_NUMBERS {
+        let mut numbers = k1_numbers();
+        for (place, number) in changes {
+            *numbers.number(*place) = *number;
+        }
+        tally.numbers_refused(&format!("{:?}", changes), &numbers, (4, a, b));
     }
 }
 
@@ -616,6 +798,21 @@ fn as_if_written(tally: &mut Tally, seed: &mut Seed) {
     }
 }
 
+/// The wrong numbers come in layout order: once the blamed one is put right, RANGE blames one
+/// behind it.
+fn in_layout_order(tally: &mut Tally, seed: &mut Seed) {
+    let all = [
+        blamed::in_table(&generate::table_bytes(seed)),
+        blamed::in_numbers(&generate::numbers(seed)),
+        blamed::in_reply(&generate::reply(seed)),
+    ];
+    for wrong in all {
+        let places: Vec<(u64, u64)> = wrong.iter().map(|it| (it.a, it.b)).collect();
+        let in_order = places.windows(2).all(|two| two[0] < two[1]);
+        tally.check("in layout order", in_order);
+    }
+}
+
 /// "no output byte changes" on a refusal, and the rest stays on success.
 fn keeps_bytes(tally: &mut Tally, seed: &mut Seed) {
     let length = seed.below(60) as usize;
@@ -786,7 +983,7 @@ fn little_stack(tally: &mut Tally) {
 }
 
 /// The checks that draw nothing.
-const FIXED: [fn(&mut Tally); 20] = [
+const FIXED: [fn(&mut Tally); 24] = [
     hexadecimal,
     bench_k1,
     bench_answers,
@@ -800,6 +997,10 @@ const FIXED: [fn(&mut Tally); 20] = [
     points_of_reach,
     points_of_numbers,
     points_of_large_numbers,
+    places_in_head,
+    places_in_op,
+    places_in_reply,
+    places_of_numbers,
     questions,
     decimals,
     words,
@@ -814,6 +1015,7 @@ fn drawn(tally: &mut Tally, seed: &mut Seed) {
     for _ in 0..2000 {
         round_trips(tally, seed);
         as_if_written(tally, seed);
+        in_layout_order(tally, seed);
         keeps_bytes(tally, seed);
     }
     for _ in 0..50 {

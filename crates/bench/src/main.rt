@@ -72,6 +72,13 @@ fn analyzers() {
     one(b"analyzer-rinse");
 }
 
+// tables with a number or set out of its range
+fn slips() {
+    one(b"slip-board");
+    one(b"slip-followers");
+    one(b"slip-two");
+}
+
 fn station() {
     one(b"largest");
 }
@@ -112,6 +119,7 @@ fn main() {
     unstarred();
     papers();
     analyzers();
+    slips();
     station();
     k1_into_few();
 }

@@ -20,7 +20,7 @@ untold zero a b = Short a
 untold (suc zero) a b = Short a
 untold (suc (suc zero)) a b = Order a
 untold (suc (suc (suc zero))) a b = Size a
-untold (suc (suc (suc (suc zero)))) a b = Range a
+untold (suc (suc (suc (suc zero)))) a b = Range a b
 untold (suc (suc (suc (suc (suc zero))))) a b = Many a
 untold (suc (suc (suc (suc (suc (suc zero)))))) a b = Clash a b
 untold (suc (suc (suc (suc (suc (suc (suc zero))))))) a b = Race a b
@@ -34,7 +34,7 @@ unfolding untold
 refusal-back (Short a) = (_, _, _, refl, refl)
 refusal-back (Order a) = (_, _, _, refl, refl)
 refusal-back (Size a) = (_, _, _, refl, refl)
-refusal-back (Range a) = (_, _, _, refl, refl)
+refusal-back (Range a b) = (_, _, _, refl, refl)
 refusal-back (Many a) = (_, _, _, refl, refl)
 refusal-back (Clash i j) = (_, _, _, refl, refl)
 refusal-back (Race i j) = (_, _, _, refl, refl)

@@ -2,13 +2,13 @@
 -- Assumes nothing.
 use Prim.Native.Nat.{ℕ, zero, suc, _+_, _-_, _<_, _≤_}
 use mathlib.Core.Path.{_≡_, refl, sym, ap, _∙_}
-use mathlib.Core.Bool.{Bool, true, false, not}
+use mathlib.Core.Bool.{true, false, not}
 use mathlib.Core.List.{List, []}
 use native.Mathlib.Omega.{arith}
 use lib.Dec.{eqb}
 use lib.ListN.{length}
 use borrow.Author.Tests.{le-leb, lt-leb, lt-ltb, le-ltb, eq-eqb, ne-eqb, ltb-false, eqb-false}
-use Rattle.rules.specs.Verdicts.{Verdict, accepted, refused, SHORT, ORDER, SIZE, RANGE, MANY, Test, _then_, onwards, more}
+use Rattle.rules.specs.Verdicts.{Verdict, accepted, refused, SHORT, ORDER, SIZE, MANY, Test, _then_, onwards, more}
 use Rattle.rules.specs.Bytes.{num8, num16}
 use Rattle.rules.specs.Judge.{needed, header, due, notMany, sized, complete, ranged, fieldTest, repeatTest, fieldsFrom}
 use Rattle.theory.proofs.Verdicts.{passes, refuses, passed, then-accepts, then-refuses, then-first, then-rest, then-assoc}
@@ -74,22 +74,17 @@ module _ (s : List ℕ) (at : ℕ) where
   unfolding complete
   complete-yes size h = passes _ SHORT at 0 (le-ltb (length s) (at + 3 + size) h)
 
--- the range test
-pub ranged-no : (ok : Bool) (at : ℕ) → ok ≡ false → ranged ok at ≡ refused RANGE at 0
-unfolding ranged
-ranged-no ok at h = refuses _ RANGE at 0 (ap not h)
-
 -- ---- the whole row is these tests and then the ranges
-module _ (s : List ℕ) (at tag size : ℕ) (ok : Bool) where
-  field-split : fieldTest s at tag size ok ≡ (fieldOf s at tag size then ranged ok at)
+module _ (s : List ℕ) (at tag size : ℕ) (wrong : ℕ) where
+  field-split : fieldTest s at tag size wrong ≡ (fieldOf s at tag size then ranged wrong at)
   unfolding fieldOf sizedOf
   field-split =
-      field-row s at tag size ok
+      field-row s at tag size wrong
       ∙ sym (simp then-assoc)
 
-  pub repeat-split : (left : ℕ) → repeatTest s at left tag size ok ≡ (repeatOf s at left tag size then ranged ok at)
+  pub repeat-split : (left : ℕ) → repeatTest s at left tag size wrong ≡ (repeatOf s at left tag size then ranged wrong at)
   unfolding repeatOf sizedOf
-  repeat-split left = repeat-row s at tag size ok left ∙ sym (simp then-assoc)
+  repeat-split left = repeat-row s at tag size wrong left ∙ sym (simp then-assoc)
 
 -- ---- what the rows come to, test by test
 module _ (s : List ℕ) (at size : ℕ) where
@@ -162,21 +157,21 @@ module _ (s : List ℕ) (at tag size : ℕ) where
 
 -- ---- the tests before the ranges, and the ranges
 
-module _ (s : List ℕ) (at tag size : ℕ) (ok : Bool) where
+module _ (s : List ℕ) (at tag size : ℕ) (wrong : ℕ) where
   -- a field is refused where its tests before the ranges refuse
-  pub field-bad : (r : Refusal) → refusalOf r ≡ fieldOf s at tag size → refusalOf r ≡ fieldTest s at tag size ok
-  field-bad r e = sym (field-split s at tag size ok ∙ then-refusal r _ (sym e))
+  pub field-bad : (r : Refusal) → refusalOf r ≡ fieldOf s at tag size → refusalOf r ≡ fieldTest s at tag size wrong
+  field-bad r e = sym (field-split s at tag size wrong ∙ then-refusal r _ (sym e))
 
   -- and where they pass, the ranges decide
-  pub field-ranged : (b : Bool) → accepted tt ≡ fieldOf s at tag size → b ≡ ok → ranged b at ≡ fieldTest s at tag size ok
-  field-ranged b e h = ap (λ (x : Bool). ranged x at) h ∙ sym (field-split s at tag size ok ∙ then-accepts _ (sym e))
+  pub field-ranged : (w : ℕ) → accepted tt ≡ fieldOf s at tag size → w ≡ wrong → ranged w at ≡ fieldTest s at tag size wrong
+  field-ranged w e h = ap (λ (x : ℕ). ranged x at) h ∙ sym (field-split s at tag size wrong ∙ then-accepts _ (sym e))
 
   -- likewise a field that may be repeated
-  pub repeat-bad : (left : ℕ) (r : Refusal) → refusalOf r ≡ repeatOf s at left tag size → refusalOf r ≡ repeatTest s at left tag size ok
-  repeat-bad left r e = sym (repeat-split s at tag size ok left ∙ then-refusal r _ (sym e))
+  pub repeat-bad : (left : ℕ) (r : Refusal) → refusalOf r ≡ repeatOf s at left tag size → refusalOf r ≡ repeatTest s at left tag size wrong
+  repeat-bad left r e = sym (repeat-split s at tag size wrong left ∙ then-refusal r _ (sym e))
 
-  pub repeat-ranged : (left : ℕ) (b : Bool) → accepted tt ≡ repeatOf s at left tag size → b ≡ ok → ranged b at ≡ repeatTest s at left tag size ok
-  repeat-ranged left b e h = ap (λ (x : Bool). ranged x at) h ∙ sym (repeat-split s at tag size ok left ∙ then-accepts _ (sym e))
+  pub repeat-ranged : (left : ℕ) (w : ℕ) → accepted tt ≡ repeatOf s at left tag size → w ≡ wrong → ranged w at ≡ repeatTest s at left tag size wrong
+  repeat-ranged left w e h = ap (λ (x : ℕ). ranged x at) h ∙ sym (repeat-split s at tag size wrong left ∙ then-accepts _ (sym e))
 
 -- ---- repeated fields, one after the other
 
@@ -187,27 +182,27 @@ unfolding _then_ onwards
 test-onwards (accepted y) w x f e = e refl
 test-onwards (refused n a b) w x f e = refl
 
-module _ (tag size : ℕ) {A : Type 0} (ok : A → Bool) (value : List ℕ → ℕ → A) (s : List ℕ) where
+module _ (tag size : ℕ) {A : Type 0} (wrong : A → ℕ) (value : List ℕ → ℕ → A) (s : List ℕ) where
   -- a repeated field that passes is whole, and was allowed to come
-  pub repeat-whole : (left at : ℕ) → repeatTest s at left tag size (ok (value s at)) ≡ accepted tt → (at + 3 + size ≤ length s) × (left ≡ 0 → ⊥)
+  pub repeat-whole : (left at : ℕ) → repeatTest s at left tag size (wrong (value s at)) ≡ accepted tt → (at + 3 + size ≤ length s) × (left ≡ 0 → ⊥)
   repeat-whole left at e =
       repeat-passed s at tag size left
-      (then-first (repeatOf s at left tag size) _ (sym (repeat-split s at tag size (ok (value s at)) left) ∙ e) .1)
+      (then-first (repeatOf s at left tag size) _ (sym (repeat-split s at tag size (wrong (value s at)) left) ∙ e) .1)
 
   -- the field at a place inside the input, and those behind it
   pub from-next : (left at : ℕ) → at < length s
-      → fieldsFrom tag size ok value s left at
-      ≡ onwards (repeatTest s at left tag size (ok (value s at)) then accepted (value s at))
-      (λ x. more x (fieldsFrom tag size ok value s (left - 1) (at + (3 + size))))
+      → fieldsFrom tag size wrong value s left at
+      ≡ onwards (repeatTest s at left tag size (wrong (value s at)) then accepted (value s at))
+      (λ x. more x (fieldsFrom tag size wrong value s (left - 1) (at + (3 + size))))
   from-next zero at h =
-      fields-end tag size ok value s at
+      fields-end tag size wrong value s at
       ∙ rw (lt-leb (length s) at h)
-      (test-onwards (repeatTest s at 0 tag size (ok (value s at))) (accepted []) (value s at) _ (λ e. absurd (repeat-whole 0 at e .1 refl)))
+      (test-onwards (repeatTest s at 0 tag size (wrong (value s at))) (accepted []) (value s at) _ (λ e. absurd (repeat-whole 0 at e .1 refl)))
   from-next (suc left) at h =
       let p : at + 3 + size ≡ at + (3 + size) = omega arith in
       let l : suc left - 1 ≡ left = omega arith in
-      fields-next tag size ok value s left at
+      fields-next tag size wrong value s left at
       ∙ rw (lt-leb (length s) at h)
-      (test-onwards (repeatTest s at (suc left) tag size (ok (value s at))) _ (value s at)
-      (λ x. more x (fieldsFrom tag size ok value s (suc left - 1) (at + (3 + size))))
+      (test-onwards (repeatTest s at (suc left) tag size (wrong (value s at))) _ (value s at)
+      (λ x. more x (fieldsFrom tag size wrong value s (suc left - 1) (at + (3 + size))))
       (λ e. rw (l, p)))

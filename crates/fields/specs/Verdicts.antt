@@ -17,7 +17,7 @@ abbrev pub refusalOf : {A : Type 0} → Refusal → rules.Verdict A
 refusalOf (Short at) = refused SHORT at 0
 refusalOf (Order at) = refused ORDER at 0
 refusalOf (Size at) = refused SIZE at 0
-refusalOf (Range at) = refused RANGE at 0
+refusalOf (Range at place) = refused RANGE at place
 refusalOf (Many at) = refused MANY at 0
 refusalOf (Clash i j) = refused CLASH i j
 refusalOf (Race i j) = refused RACE i j

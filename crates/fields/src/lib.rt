@@ -1,6 +1,6 @@
 // Fields: numbers in bytes, and the tests of one field in document 01's order.
 ghost use mathlib.Core.Path.{_≡_};
-ghost use Prim.Native.Nat.{_+_, _<_, _≤_};
+ghost use Prim.Native.Nat.{_+_, _^_, _<_, _≤_};
 ghost use lib.ListN.{length};
 ghost use Rattle.rules.specs.Bytes.{num8, num16, num32};
 ghost use Rattle.rules.specs.Judge.{ranged};
@@ -12,7 +12,7 @@ pub enum Refusal {
     Short(usize),
     Order(usize),
     Size(usize),
-    Range(usize),
+    Range(usize, usize),
     Many(usize),
     Clash(usize, usize),
     Race(usize, usize),
@@ -104,12 +104,13 @@ pub fn repeat_test(s: &[u8], at: usize, left: usize, tag: u8, size: usize) -> Ve
     sized_test(s, at, size)
 }
 
-// The answer of a range test.
-pub fn range_test(ok: bool, at: usize) -> Verdict
-    ensures { λ r. ⌜ tested r ≡ ranged ok at ⌝ }
+// The answer of a range test on the field at a place, by where in the field the first wrong number begins; 0 where none is wrong.
+pub fn range_test(wrong: usize, at: usize) -> Verdict
+    requires { ⌜ at + wrong < 2 ^ 64 ⌝ }
+    ensures { λ r. ⌜ tested r ≡ ranged wrong at ⌝ }
 {
-    if ok {
+    if wrong == 0 {
         return Verdict::Accepted;
     }
-    Verdict::Refused(Refusal::Range(at))
+    Verdict::Refused(Refusal::Range(at, at + wrong))
 }

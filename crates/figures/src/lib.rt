@@ -31,7 +31,7 @@ pub fn figures_of(r: Refusal) -> Figures
         Refusal::Short(at) => numbered(1, at, 0),
         Refusal::Order(at) => numbered(2, at, 0),
         Refusal::Size(at) => numbered(3, at, 0),
-        Refusal::Range(at) => numbered(4, at, 0),
+        Refusal::Range(at, place) => numbered(4, at, place),
         Refusal::Many(at) => numbered(5, at, 0),
         Refusal::Clash(i, j) => numbered(6, i, j),
         Refusal::Race(i, j) => numbered(7, i, j),

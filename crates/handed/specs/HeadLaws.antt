@@ -1,9 +1,9 @@
 -- Laws of the numbers before the operations: their tests, the words, and that numbers that pass fit the code's.
 -- Assumes nothing.
-use Prim.Native.Nat.{ℕ, _+_, _^_, _<_, _≤_}
+use Prim.Native.Nat.{ℕ, suc, _+_, _*_, _^_, _<_, _≤_}
 use mathlib.Core.Path.{_≡_, sym, ap, _∙_}
-use mathlib.Core.Bool.{true, false, not, _&&_}
-use mathlib.Core.List.{List}
+use mathlib.Core.Bool.{true, false, not}
+use mathlib.Core.List.{List, _∷_}
 use native.Mathlib.Omega.{arith}
 use native.Mathlib.Numerals.{add-one}
 use lib.Dec.{eqb}
@@ -13,12 +13,10 @@ use lib.Seq.{drop-cons}
 use borrow.Author.Tests.{eq-eqb, ne-eqb, eqb-true, not-false}
 use Rattle.rules.specs.Table.{SetOf}
 use Rattle.rules.specs.Verdicts.{accepted, refused, ORDER, SIZE, RANGE, refuseIf, _then_}
-use Rattle.rules.specs.Judge.{Numbers, headOfNumbers, ranged, lenOk, countsOk, setOk, eachSetOk, opsPlace, numbersTest}
-use Rattle.theory.proofs.Says.{says-leb, says-and}
+use Rattle.rules.specs.Judge.{Numbers, headOfNumbers, ranged, number, wrongFrom, lenWrong, countsWrong, setOk, setRanges, setsWrong, opsPlace, numbersTest}
 use Rattle.theory.proofs.Verdicts.{passes, refuses, passed, then-accepts, then-refuses, then-first, then-rest}
-use Rattle.theory.proofs.Judging.{says-set, says-each-set, says-counts, range-passed, numbers-row}
-use Rattle.theory.proofs.Bytes.{ranged-yes}
-use Rattle.fields.specs.FieldLaws.{ranged-no}
+use Rattle.theory.proofs.Judging.{says-sets, says-len, says-counts, numbers-row}
+use Rattle.theory.proofs.Ranges.{wrong-here, wrong-later, counts-within, sets-within, range-passed, ranged-yes, ranged-no}
 use Rattle.fields.specs.Verdicts.{refusalOf}
 use Rattle.fields.specs.declared.Refusal.{Refusal}
 use Rattle.fields.specs.RefusalLaws.{then-refusal}
@@ -28,17 +26,20 @@ use Rattle.handed.specs.Handed.{numbersVerdict, Small}
 -- ---- what stands before the operations
 
 module _ (N : Numbers) where
-  pub test-len : lenOk (N .len) ≡ false → numbersTest N ≡ refused RANGE 0 0
-  test-len e = numbers-row N ∙ then-refuses _ (ranged-no _ 0 e)
+  pub test-len : {wrong : ℕ} → wrong ≡ lenWrong (N .len) → (wrong ≡ 0 → ⊥) → numbersTest N ≡ refused RANGE 0 wrong
+  test-len {wrong} e n =
+      let place : 0 + wrong ≡ wrong = omega arith in
+      numbers-row N ∙ then-refuses _ (ap (λ (w : ℕ). ranged w 0) (sym e) ∙ ranged-no wrong 0 n ∙ ap (refused RANGE 0) place)
 
-  module _ (e0 : lenOk (N .len) ≡ true) where
-    pub test-counts : countsOk (N .boards) (N .cells) (N .modes) ≡ false → numbersTest N ≡ refused RANGE 5 0
-    test-counts e = numbers-row N ∙ then-accepts _ (ranged-yes _ 0 e0) ∙ then-refuses _ (ranged-no _ 5 e)
+  module _ (e0 : lenWrong (N .len) ≡ 0) where
+    pub test-counts : {wrong : ℕ} → wrong ≡ countsWrong (N .boards) (N .cells) (N .modes) → (wrong ≡ 0 → ⊥) → numbersTest N ≡ refused RANGE 5 (5 + wrong)
+    test-counts {wrong} e n =
+        numbers-row N ∙ then-accepts _ (ranged-yes _ 0 e0) ∙ then-refuses _ (ap (λ (w : ℕ). ranged w 5) (sym e) ∙ ranged-no wrong 5 n)
 
-    module _ (e1 : countsOk (N .boards) (N .cells) (N .modes) ≡ true) where
+    module _ (e1 : countsWrong (N .boards) (N .cells) (N .modes) ≡ 0) where
       to-size : numbersTest N
           ≡ (refuseIf (not (eqb (length (N .follow)) (N .modes))) SIZE 11 0
-          then ranged (setOk (N .modes) (N .first) && eachSetOk (N .modes) (N .follow)) 11
+          then ranged (setsWrong (N .modes) (N .first ∷ N .follow)) 11
           then refuseIf (eqb (length (N .ops)) 0) ORDER (opsPlace (N .modes)) 0)
       to-size = numbers-row N ∙ then-accepts _ (ranged-yes _ 0 e0) ∙ then-accepts _ (ranged-yes _ 5 e1)
 
@@ -47,63 +48,78 @@ module _ (N : Numbers) where
 
       module _ (e2 : length (N .follow) ≡ N .modes) where
         to-sets : numbersTest N
-            ≡ (ranged (setOk (N .modes) (N .first) && eachSetOk (N .modes) (N .follow)) 11
-            then refuseIf (eqb (length (N .ops)) 0) ORDER (opsPlace (N .modes)) 0)
+            ≡ (ranged (setsWrong (N .modes) (N .first ∷ N .follow)) 11 then refuseIf (eqb (length (N .ops)) 0) ORDER (opsPlace (N .modes)) 0)
         to-sets = to-size ∙ then-accepts _ (passes _ SIZE 11 0 (ap not (eq-eqb _ _ e2)))
 
-        pub test-sets : (setOk (N .modes) (N .first) && eachSetOk (N .modes) (N .follow)) ≡ false → numbersTest N ≡ refused RANGE 11 0
-        test-sets e = to-sets ∙ then-refuses _ (ranged-no _ 11 e)
+        pub test-sets : {wrong : ℕ} → wrong ≡ setsWrong (N .modes) (N .first ∷ N .follow) → (wrong ≡ 0 → ⊥) → numbersTest N ≡ refused RANGE 11 (11 + wrong)
+        test-sets {wrong} e n = to-sets ∙ then-refuses _ (ap (λ (w : ℕ). ranged w 11) (sym e) ∙ ranged-no wrong 11 n)
 
-        module _ (e3 : (setOk (N .modes) (N .first) && eachSetOk (N .modes) (N .follow)) ≡ true) where
+        module _ (e3 : setsWrong (N .modes) (N .first ∷ N .follow) ≡ 0) where
           pub test-none : length (N .ops) ≡ 0 → numbersTest N ≡ refused ORDER (opsPlace (N .modes)) 0
           test-none h = to-sets ∙ then-accepts _ (ranged-yes _ 11 e3) ∙ refuses _ ORDER _ 0 (eq-eqb _ 0 h)
 
           pub test-some : (length (N .ops) ≡ 0 → ⊥) → numbersTest N ≡ accepted tt
           test-some h = to-sets ∙ then-accepts _ (ranged-yes _ 11 e3) ∙ passes _ ORDER _ 0 (ne-eqb _ 0 h)
 
--- the words, one after the other
+-- ---- the sets, one after the other: the first modes, and then the words, of which word i would begin at 7 + 4·i
+
+module _ (n first : ℕ) (ws : List ℕ) where
+  pub first-wrong : setOk n first ≡ false → setsWrong n (first ∷ ws) ≡ 3
+  unfolding setsWrong
+  first-wrong e = wrong-here 3 (number 4 (setOk n first)) (setRanges n ws) e
+
+  pub first-fine : setOk n first ≡ true → setsWrong n (first ∷ ws) ≡ wrongFrom (7 + 4 * 0) (setRanges n (drop 0 ws))
+  unfolding setsWrong
+  first-fine e = wrong-later 3 (number 4 (setOk n first)) (setRanges n ws) e
+
 module _ (n : ℕ) (ws : List ℕ) (i : ℕ) (h : i < length ws) where
-  words-next : eachSetOk n (drop i ws) ≡ (setOk n (getD ws i 0) && eachSetOk n (drop (i + 1) ws))
-  unfolding eachSetOk
+  words-next : setRanges n (drop i ws) ≡ number 4 (setOk n (getD ws i 0)) ∷ setRanges n (drop (i + 1) ws)
   words-next = rw (drop-cons ws i 0 h, add-one)
 
-  pub words-bad : setOk n (getD ws i 0) ≡ false → eachSetOk n (drop i ws) ≡ false
-  words-bad e = words-next ∙ rw e
+  pub word-wrong : setOk n (getD ws i 0) ≡ false → wrongFrom (7 + 4 * i) (setRanges n (drop i ws)) ≡ 7 + 4 * i
+  word-wrong e = ap (wrongFrom (7 + 4 * i)) words-next ∙ wrong-here (7 + 4 * i) _ _ e
 
-  pub words-good : setOk n (getD ws i 0) ≡ true → eachSetOk n (drop i ws) ≡ eachSetOk n (drop (i + 1) ws)
-  words-good e = words-next ∙ rw e
+  pub word-fine : setOk n (getD ws i 0) ≡ true
+      → wrongFrom (7 + 4 * i) (setRanges n (drop i ws)) ≡ wrongFrom (7 + 4 * (i + 1)) (setRanges n (drop (i + 1) ws))
+  word-fine e =
+      let place : 7 + 4 * i + 4 ≡ 7 + 4 * (i + 1) = omega arith in
+      ap (wrongFrom (7 + 4 * i)) words-next ∙ wrong-later (7 + 4 * i) _ _ e ∙ rw place
 
-pub words-end : (n : ℕ) (ws : List ℕ) (i : ℕ) → length ws ≤ i → eachSetOk n (drop i ws) ≡ true
-unfolding eachSetOk
-words-end n ws i h = rw (drop-of-length-le ws h)
+pub words-end : (n : ℕ) (ws : List ℕ) (i place : ℕ) → length ws ≤ i → wrongFrom place (setRanges n (drop i ws)) ≡ 0
+unfolding wrongFrom
+words-end n ws i place h = rw (drop-of-length-le ws h)
+
+-- what is wrong begins inside the field
+pub counts-near : (boards cells modes : ℕ) {wrong : ℕ} → wrong ≡ countsWrong boards cells modes → wrong ≤ 6
+counts-near boards cells modes e = omega (arith, e, counts-within boards cells modes)
+
+pub sets-near : (n first : ℕ) (ws : List ℕ) {wrong : ℕ} → wrong ≡ setsWrong n (first ∷ ws) → length ws ≤ 32 → wrong ≤ 135
+sets-near n first ws e h = omega (arith, e, sets-within n (first ∷ ws))
 
 -- numbers that pass fit the code's
 fits : {n s : ℕ} → SetOf n s → n ≤ 32 → s < 2 ^ 32
 fits {n} {s} h l = let m : 2 ^ n ≤ 2 ^ 32 = pow-mono l in omega (arith, h .small)
 
-pub counts-small : (boards cells modes : ℕ) → countsOk boards cells modes ≡ true → SmallCounts boards cells modes
+pub counts-small : (boards cells modes : ℕ) → countsWrong boards cells modes ≡ 0 → SmallCounts boards cells modes
 counts-small boards cells modes e =
     let (b, (c, (d, (f, g)))) = says-counts boards cells modes .0 e in
     record { few-boards = omega arith; few-cells = d; few-modes = g }
 
 pub test-small : (N : Numbers) → numbersTest N ≡ accepted tt → Small (headOfNumbers N)
-unfolding lenOk
 test-small N e =
     let e0 = sym (numbers-row N) ∙ e in
     let e1 = then-rest _ _ e0 in
     let e2 = then-rest _ _ e1 in
     let e3 = then-rest _ _ e2 in
-    let len = says-and _ _ (says-leb 1 (N .len)) (says-leb (N .len) 1000) .0 (range-passed _ 0 (then-first _ _ e0 .1)) in
+    let len = says-len (N .len) .0 (range-passed _ 0 (then-first _ _ e0 .1)) in
     let counts = counts-small (N .boards) (N .cells) (N .modes) (range-passed _ 5 (then-first _ _ e1 .1)) in
-    let (first, follow) =
-    says-and _ _ (says-set (N .modes) (N .first)) (says-each-set (N .modes) (N .follow)) .0 (range-passed _ 11 (then-first _ _ e3 .1))
-    in
+    let sets = says-sets (N .modes) (N .first ∷ N .follow) .0 (range-passed _ 11 (then-first _ _ e3 .1)) in
     record {
       len = omega arith;
       counts = counts;
-      first = fits first (counts .few-modes);
+      first = fits (sets 0 (omega arith)) (counts .few-modes);
       words = eqb-true _ _ (not-false _ (passed _ SIZE 11 0 (then-first _ _ e2 .1)));
-      follow = λ a h. fits (follow a h) (counts .few-modes);
+      follow = λ a h. fits (sets (suc a) (omega arith)) (counts .few-modes);
     }
 
 -- ---- the verdict

@@ -1,8 +1,9 @@
 // A table handed over as numbers, judged.
 ghost use mathlib.Core.Path.{_≡_};
 ghost use Prim.Native.Nat.{_≤_};
+ghost use mathlib.Core.List.{_∷_};
 ghost use lib.ListN.{length};
-ghost use Rattle.rules.specs.Judge.{numbersTest, eachSetOk, judgeNumbers};
+ghost use Rattle.rules.specs.Judge.{numbersTest, setsWrong, judgeNumbers};
 ghost use Rattle.fields.specs.Verdicts.{tested};
 ghost use Rattle.table.specs.Tables.{JudgedAs, padded, tableIn};
 ghost use Rattle.handed.specs.Handed.{numbers, head, numbersVerdict, SmallWords, Small};
@@ -13,19 +14,22 @@ use table::Table;
 
 // ---- what stands before the operations
 
-// Each word is a set of modes, not empty.
-fn words_ok(modes: u32, follow: &[u64]) -> bool
-    requires { ⌜ modes ≤ 32 ⌝ }
-    ensures { λ r. ⌜ r ≡ eachSetOk modes (now (follow .entry)) ⌝ }
+// Which set is wrong first of the first modes and the words: where it would begin in the field, or 0 where each is a set of modes, not empty.
+fn sets_wrong(modes: u32, first: u64, follow: &[u64]) -> usize
+    requires { ⌜ (modes ≤ 32) × (length (now follow) ≤ 32) ⌝ }
+    ensures { λ r. ⌜ r ≡ setsWrong modes (first ∷ now (follow .entry)) ⌝ }
 {
+    if !sets::is_set_of(modes, first) {
+        return 3;
+    }
     let mut m: usize = 0;
     while m < follow.len() {
         if !sets::is_set_of(modes, follow[m]) {
-            return false;
+            return 7 + 4 * m;
         }
         m += 1;
     }
-    true
+    0
 }
 
 // The tests of the numbers before the operations, and that there are operations.
@@ -40,20 +44,20 @@ fn head_test(
 ) -> Verdict
     ensures { λ r. ⌜ tested r ≡ numbersTest (numbers p boards cells modes first (now (follow .entry)) (now (ops .entry))) ⌝ }
 {
-    if !ranges::len_ok(p) {
-        return Verdict::Refused(Refusal::Range(0));
+    let len = ranges::len_wrong(p);
+    if len != 0 {
+        return Verdict::Refused(Refusal::Range(0, len));
     }
-    if !ranges::counts_ok(boards, cells, modes) {
-        return Verdict::Refused(Refusal::Range(5));
+    let counts = ranges::counts_wrong(boards, cells, modes);
+    if counts != 0 {
+        return Verdict::Refused(Refusal::Range(5, 5 + counts));
     }
     if follow.len() != modes as usize {
         return Verdict::Refused(Refusal::Size(11));
     }
-    if !sets::is_set_of(modes as u32, first) {
-        return Verdict::Refused(Refusal::Range(11));
-    }
-    if !words_ok(modes as u32, follow) {
-        return Verdict::Refused(Refusal::Range(11));
+    let sets = sets_wrong(modes as u32, first, follow);
+    if sets != 0 {
+        return Verdict::Refused(Refusal::Range(11, 11 + sets));
     }
     if ops.len() == 0 {
         return Verdict::Refused(Refusal::Order(table::ops_place(modes as u32)));

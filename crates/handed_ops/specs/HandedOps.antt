@@ -7,7 +7,7 @@ use lib.Dec.{ltb}
 use lib.ListN.{length, getD}
 use Rattle.rules.specs.Table.{Op, Table}
 use Rattle.rules.specs.Verdicts.{Verdict, accepted, SHORT, Test, refuseIf, _then_, onwards}
-use Rattle.rules.specs.Judge.{notMany, ranged, opOk, opOfNumbers, withOps, opsPlace, opsOfNumbers}
+use Rattle.rules.specs.Judge.{notMany, ranged, opWrong, opOfNumbers, withOps, opsPlace, opsOfNumbers}
 use Rattle.table.specs.Tables.{tableOf, tableIn}
 use Rattle.ranges.specs.Ranges.{counted}
 use Rattle.table.specs.declared.Table as code
@@ -26,7 +26,7 @@ opThere ns at =
 
 -- the tests of one operation, whose numbers stand first, when `left` more may come and it would be written at a place
 unfoldable pub opTest : Table → List ℕ → ℕ → ℕ → Test
-opTest T ns left at = notMany at left then refuseIf (ltb (length ns) 6) SHORT at 0 then ranged (opOk T (opOfNumbers ns)) at
+opTest T ns left at = notMany at left then refuseIf (ltb (length ns) 6) SHORT at 0 then ranged (opWrong T (opOfNumbers ns)) at
 
 -- the length and the counts of the code's table
 abbrev pub countsOf : code.Table → Table

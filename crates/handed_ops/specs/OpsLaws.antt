@@ -2,7 +2,7 @@
 -- Assumes nothing.
 use Prim.Native.Nat.{ℕ, zero, suc, _+_, _*_, _-_, _<_, _≤_}
 use mathlib.Core.Path.{_≡_, refl, sym, ap, _∙_}
-use mathlib.Core.Bool.{true, cond}
+use mathlib.Core.Bool.{cond}
 use mathlib.Core.List.{List, [], _∷_, _++_, append-assoc, append-nil}
 use native.Mathlib.Nat.{add-zero}
 use native.Mathlib.Omega.{arith}
@@ -12,9 +12,9 @@ use lib.Seq.{getD-drop, drop-drop}
 use borrow.Author.Tests.{lt-ltb, le-ltb, eq-eqb, ne-eqb, ltb-false, eqb-false}
 use Rattle.rules.specs.Table.{Op, Table}
 use Rattle.rules.specs.Verdicts.{Verdict, accepted, refused, SHORT, MANY, refuseIf, _then_, onwards, more}
-use Rattle.rules.specs.Judge.{notMany, ranged, opOk, opOfNumbers, withOps, opsPlace, opsOfNumbers}
+use Rattle.rules.specs.Judge.{notMany, ranged, opWrong, opOfNumbers, withOps, opsPlace, opsOfNumbers}
 use Rattle.theory.proofs.Verdicts.{passes, refuses, passed, then-accepts, then-refuses, then-first, then-rest, then-assoc}
-use Rattle.theory.proofs.Judging.{range-passed}
+use Rattle.theory.proofs.Ranges.{range-passed}
 use Rattle.fields.specs.Verdicts.{refusalOf}
 use Rattle.fields.specs.declared.Refusal.{Refusal}
 use Rattle.fields.specs.declared.Verdict.the-variants.{Accepted}
@@ -36,21 +36,21 @@ module _ (T : Table) (ns : List ℕ) (left at : ℕ) where
   op-many h = then-refuses _ (refuses _ MANY at 0 (eq-eqb left 0 h))
 
   module _ (some : 0 < left) where
-    to-short : opTest T ns left at ≡ (refuseIf (ltb (length ns) 6) SHORT at 0 then ranged (opOk T (opOfNumbers ns)) at)
+    to-short : opTest T ns left at ≡ (refuseIf (ltb (length ns) 6) SHORT at 0 then ranged (opWrong T (opOfNumbers ns)) at)
     unfolding opTest notMany
     to-short = then-accepts _ (passes _ MANY at 0 (ne-eqb left 0 (λ e. omega arith)))
 
     pub op-short : length ns < 6 → opTest T ns left at ≡ refused SHORT at 0
     op-short h = to-short ∙ then-refuses _ (refuses _ SHORT at 0 (lt-ltb (length ns) 6 h))
 
-    pub op-whole : 6 ≤ length ns → opTest T ns left at ≡ ranged (opOk T (opOfNumbers ns)) at
+    pub op-whole : 6 ≤ length ns → opTest T ns left at ≡ ranged (opWrong T (opOfNumbers ns)) at
     op-whole h = to-short ∙ then-accepts _ (passes _ SHORT at 0 (le-ltb (length ns) 6 h))
 
 -- an operation that passes: there is a place for it behind `count` others, its numbers are there, and they are in their ranges
 pub record Ready (T : Table) (ns : List ℕ) (at count : ℕ) : Type 0 where
   pub some : count < 32
   pub whole : at + 6 ≤ length ns
-  pub ranges : opOk T (opOfNumbers (drop at ns)) ≡ true
+  pub ranges : opWrong T (opOfNumbers (drop at ns)) ≡ 0
 
 positive : (n : ℕ) → (n ≡ 0 → ⊥) → 0 < n
 positive zero h = absurd (h refl)
@@ -120,9 +120,13 @@ module _ (H : Table) (ns : List ℕ) where
     pub taken-small : SmallCounts (H .boards) (H .cells) (H .modes) → (t .count ≤ 32) × SmallCounts (t .boards) (t .cells) (t .modes)
     taken-small h = rw (k .held) (k .few, h)
 
+    -- and the next operation would not be written far away
+    pub taken-near : SmallCounts (H .boards) (H .cells) (H .modes) → place < 1000
+    taken-near h = omega (arith, k .few, k .here, h .few-modes)
+
     -- the tests go by the length and the counts of t, which are those of H
     taken-test : (ms : List ℕ) → nextTest t ms place ≡ opTest H ms (32 - length (k .ops)) place
-    unfolding opTest opOk
+    unfolding opTest opWrong
     taken-test ms = rw (k .held)
 
     pub taken-end : length ns ≤ at → JudgedAs (handedOps H ns) (record { verdict = Accepted; table = t })

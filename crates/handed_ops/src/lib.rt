@@ -1,9 +1,8 @@
 // The operations of a table handed over as numbers, six for each, judged one after the other.
 ghost use mathlib.Core.Path.{_≡_};
-ghost use Prim.Native.Nat.{_+_, _-_, _≤_};
-ghost use mathlib.Core.Bool.{true};
+ghost use Prim.Native.Nat.{_+_, _-_, _<_, _≤_};
 ghost use lib.ListN.{length, drop};
-ghost use Rattle.rules.specs.Judge.{opOfNumbers, opOk};
+ghost use Rattle.rules.specs.Judge.{opOfNumbers, opWrong};
 ghost use Rattle.fields.specs.Verdicts.{tested};
 ghost use Rattle.table.specs.Tables.{JudgedAs, tableOf, opIn};
 ghost use Rattle.ranges.specs.Ranges.{wideOf, counted};
@@ -41,7 +40,7 @@ fn op_test(
     at: usize,
     place: usize,
 ) -> Verdict
-    requires { ⌜ (at ≤ length (now ops)) × (count ≤ 32) × SmallCounts boards cells modes ⌝ }
+    requires { ⌜ (at ≤ length (now ops)) × (count ≤ 32) × SmallCounts boards cells modes × (place < 1000) ⌝ }
     ensures { λ r. ⌜ tested r ≡ opTest (counted len boards cells modes) (drop at (now (ops .entry))) (32 - count) place ⌝ }
 {
     if 32 <= count {
@@ -51,15 +50,12 @@ fn op_test(
         return Verdict::Refused(Refusal::Short(place));
     }
     let w = wide_at(ops, at);
-    if !ranges::wide_ok(len, boards, cells, modes, w) {
-        return Verdict::Refused(Refusal::Range(place));
-    }
-    Verdict::Accepted
+    fields::range_test(ranges::wide_wrong(len, boards, cells, modes, w), place)
 }
 
 // The operation that stands there, when it has passed.
 fn op_at(len: u32, boards: u32, cells: u32, modes: u32, ops: &[u64], at: usize) -> Op
-    requires { ⌜ (at + 6 ≤ length (now ops)) × SmallCounts boards cells modes × (opOk (counted len boards cells modes) (opOfNumbers (drop at (now ops))) ≡ true) ⌝ }
+    requires { ⌜ (at + 6 ≤ length (now ops)) × SmallCounts boards cells modes × (opWrong (counted len boards cells modes) (opOfNumbers (drop at (now ops))) ≡ 0) ⌝ }
     ensures { λ r. ⌜ r ≡ opIn (opOfNumbers (drop at (now (ops .entry)))) ⌝ }
 {
     let w = wide_at(ops, at);

@@ -4,7 +4,7 @@ ghost use Prim.Native.Nat.{_+_, _≤_};
 ghost use lib.ListN.{length};
 ghost use Rattle.rules.specs.Verdicts.{accepted};
 ghost use Rattle.rules.specs.Bytes.{words};
-ghost use Rattle.rules.specs.Judge.{eachSetOk, headOf, opsPlace, headTest};
+ghost use Rattle.rules.specs.Judge.{setsWrong, headOf, opsPlace, headTest};
 ghost use Rattle.fields.specs.Verdicts.{tested};
 ghost use Rattle.table.specs.Tables.{tableIn, padded};
 ghost use Rattle.heads.specs.Heads.{lenTest, countsTest, modesTest};
@@ -20,8 +20,8 @@ pub fn len_test(s: &[u8], tag: u8) -> Verdict
     match v {
         Verdict::Refused(r) => Verdict::Refused(r),
         Verdict::Accepted => {
-            let ok = ranges::len_ok(fields::be16(s, 3) as u64);
-            fields::range_test(ok, 0)
+            let wrong = ranges::len_wrong(fields::be16(s, 3) as u64);
+            fields::range_test(wrong, 0)
         }
     }
 }
@@ -37,26 +37,26 @@ fn counts_test(s: &[u8]) -> Verdict
             let boards = fields::byte(s, 8) as u64;
             let cells = fields::byte(s, 9) as u64;
             let modes = fields::byte(s, 10) as u64;
-            fields::range_test(ranges::counts_ok(boards, cells, modes), 5)
+            fields::range_test(ranges::counts_wrong(boards, cells, modes), 5)
         }
     }
 }
 
-// The first modes and the followers of each mode, one word after the other.
-fn sets_ok(s: &[u8], modes: u32) -> bool
+// Which set is wrong first of the first modes and the followers of each mode, one word after the other: where it begins in the field, or 0.
+fn sets_wrong(s: &[u8], modes: u32) -> usize
     requires { ⌜ (modes ≤ 32) × (opsPlace modes ≤ length (now s)) ⌝ }
-    ensures { λ r. ⌜ r ≡ eachSetOk modes (words (now (s .entry)) 14 (modes + 1)) ⌝ }
+    ensures { λ r. ⌜ r ≡ setsWrong modes (words (now (s .entry)) 14 (modes + 1)) ⌝ }
 {
     let n = modes as usize + 1;
     let mut m: usize = 0;
     while m < n {
         let word = fields::be32(s, 14 + 4 * m);
         if !sets::is_set_of(modes, word as u64) {
-            return false;
+            return 3 + 4 * m;
         }
         m += 1;
     }
-    true
+    0
 }
 
 // Field 03, for as many modes.
@@ -67,7 +67,7 @@ fn modes_test(s: &[u8], modes: u32) -> Verdict
     let v = reader::field_at(s, 11, 3, 4 + 4 * (modes as usize));
     match v {
         Verdict::Refused(r) => Verdict::Refused(r),
-        Verdict::Accepted => fields::range_test(sets_ok(s, modes), 11),
+        Verdict::Accepted => fields::range_test(sets_wrong(s, modes), 11),
     }
 }
 

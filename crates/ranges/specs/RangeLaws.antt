@@ -2,31 +2,37 @@
 -- Assumes nothing.
 use Prim.Native.Nat.{ℕ, _+_, _^_, _<_, _≤_}
 use mathlib.Core.Path.{_≡_}
-use mathlib.Core.Bool.{true, false, _&&_}
 use native.Mathlib.Omega.{arith}
-use lib.Dec.{ltb}
 use lib.Pow.{pow-mono}
-use borrow.Author.Tests.{lt-leb, le-leb}
+use borrow.Author.Tests.{lt-leb, le-leb, lt-ltb, le-ltb}
 use Rattle.rules.specs.Table as rules
-use Rattle.rules.specs.Judge.{opOk, setOk}
-use Rattle.theory.proofs.Judging.{says-op}
+use Rattle.rules.specs.Judge.{opWrong}
+use Rattle.theory.proofs.Ranges.{op-within}
+use Rattle.theory.proofs.Judging.{op-ok}
+use Rattle.ranges.specs.Ranges.{setsOf}
 
 -- the tests of an operation, one after the other
 module _ (T : rules.Table) (o : rules.Op) where
-  pub op-no-time : o .dur < 1 → opOk T o ≡ false
-  unfolding opOk
-  op-no-time h = rw (lt-leb 1 (o .dur) h)
+  pub op-start : 65536 ≤ o .start → opWrong T o ≡ 3
+  unfolding opWrong
+  op-start h = rw (le-ltb (o .start) 65536 h)
 
-  pub op-late : 1 ≤ o .dur → T .len < o .start + o .dur → opOk T o ≡ false
-  unfolding opOk
-  op-late h l = rw (le-leb 1 (o .dur) h, lt-leb (o .start + o .dur) (T .len) l)
+  module _ (fits : o .start < 65536) where
+    pub op-no-time : o .dur < 1 → opWrong T o ≡ 5
+    unfolding opWrong
+    op-no-time h = rw (lt-ltb (o .start) 65536 fits, lt-leb 1 (o .dur) h)
 
-  pub op-sets : 1 ≤ o .dur → o .start + o .dur ≤ T .len
-      → opOk T o
-      ≡ (setOk (T .boards) (o .boards)
-      && (ltb (o .reads) (2 ^ T .cells) && (ltb (o .writes) (2 ^ T .cells) && setOk (T .modes) (o .modes))))
-  unfolding opOk
-  op-sets h l = rw (le-leb 1 (o .dur) h, le-leb (o .start + o .dur) (T .len) l)
+    pub op-late : 1 ≤ o .dur → T .len < o .start + o .dur → opWrong T o ≡ 5
+    unfolding opWrong
+    op-late h l = rw (lt-ltb (o .start) 65536 fits, le-leb 1 (o .dur) h, lt-leb (o .start + o .dur) (T .len) l)
+
+    pub op-sets : 1 ≤ o .dur → o .start + o .dur ≤ T .len → opWrong T o ≡ setsOf T o
+    unfolding opWrong setsOf
+    op-sets h l = rw (lt-ltb (o .start) 65536 fits, le-leb 1 (o .dur) h, le-leb (o .start + o .dur) (T .len) l)
+
+-- what is wrong begins inside the field
+pub wrong-near : (T : rules.Table) (o : rules.Op) {wrong : ℕ} → wrong ≡ opWrong T o → wrong ≤ 21
+wrong-near T o e = omega (arith, e, op-within T o)
 
 -- numbers in range fit 32 bits
 pub record OpSmall (o : rules.Op) : Type 0 where
@@ -40,9 +46,9 @@ pub record OpSmall (o : rules.Op) : Type 0 where
 small : {s n : ℕ} → s < 2 ^ n → n ≤ 32 → s < 2 ^ 32
 small {s} {n} h l = let m : 2 ^ n ≤ 2 ^ 32 = pow-mono l in omega arith
 
-pub op-small : (T : rules.Table) (o : rules.Op) → T .len < 2 ^ 32 → (T .boards ≤ 32) × (T .cells ≤ 32) × (T .modes ≤ 32) → opOk T o ≡ true → OpSmall o
+pub op-small : (T : rules.Table) (o : rules.Op) → T .len < 2 ^ 32 → (T .boards ≤ 32) × (T .cells ≤ 32) × (T .modes ≤ 32) → opWrong T o ≡ 0 → OpSmall o
 op-small T o h l e =
-    let ok = says-op T o .0 e in
+    let ok = op-ok T o e in
     record {
       start = omega (arith, ok .fits);
       dur = omega (arith, ok .fits);

@@ -1,8 +1,10 @@
 -- The numbers that are tested, as the rules have them.
 -- Assumes nothing.
-use Prim.Native.Nat.{ℕ}
-use mathlib.Core.List.{[]}
+use Prim.Native.Nat.{ℕ, _^_}
+use mathlib.Core.List.{[], _∷_}
+use lib.Dec.{ltb}
 use Rattle.rules.specs.Table.{Op, Table}
+use Rattle.rules.specs.Judge.{number, wrongFrom, setOk}
 use Rattle.ranges.specs.declared.Wide.{Wide}
 
 -- an operation's six numbers
@@ -21,3 +23,14 @@ wideOf o =
 abbrev pub counted : ℕ → ℕ → ℕ → ℕ → Table
 counted len boards cells modes =
     record { len = len; boards = boards; cells = cells; modes = modes; first = 0; follow = []; ops = [] }
+
+-- of an operation whose dates are in range: which of its sets is wrong first
+unfoldable pub setsOf : Table → Op → ℕ
+unfolding wrongFrom
+setsOf T o =
+    wrongFrom 7
+    (number 2 (setOk (T .boards) (o .boards))
+    ∷ number 4 (ltb (o .reads) (2 ^ T .cells))
+    ∷ number 4 (ltb (o .writes) (2 ^ T .cells))
+    ∷ number 4 (setOk (T .modes) (o .modes))
+    ∷ [])

@@ -1,8 +1,8 @@
-// The ranges of document 01, tested before a number is held.
+// The ranges of document 01, tested before a number is held. Each test answers which number is wrong first: where it begins in its field, behind
+// the tag and the length, or 0 where none is wrong.
 ghost use mathlib.Core.Path.{_≡_};
 ghost use Prim.Native.Nat.{_≤_};
-ghost use mathlib.Core.Bool.{true};
-ghost use Rattle.rules.specs.Judge.{lenOk, countsOk, opOk};
+ghost use Rattle.rules.specs.Judge.{lenWrong, countsWrong, opWrong};
 ghost use Rattle.table.specs.Tables.{opOf};
 ghost use Rattle.ranges.specs.Ranges.{wideOf, counted};
 use table::Op;
@@ -17,63 +17,75 @@ pub struct Wide {
     pub modes: u64,
 }
 
-pub fn len_ok(p: u64) -> bool
-    ensures { λ r. ⌜ r ≡ lenOk p ⌝ }
+pub fn len_wrong(p: u64) -> usize
+    ensures { λ r. ⌜ r ≡ lenWrong p ⌝ }
 {
     if p < 1 {
-        return false;
+        return 3;
     }
-    p <= 1000
+    if 1000 < p {
+        return 3;
+    }
+    0
 }
 
-pub fn counts_ok(boards: u64, cells: u64, modes: u64) -> bool
-    ensures { λ r. ⌜ r ≡ countsOk boards cells modes ⌝ }
+pub fn counts_wrong(boards: u64, cells: u64, modes: u64) -> usize
+    ensures { λ r. ⌜ r ≡ countsWrong boards cells modes ⌝ }
 {
     if boards < 1 {
-        return false;
+        return 3;
     }
     if 16 < boards {
-        return false;
+        return 3;
     }
     if 32 < cells {
-        return false;
+        return 4;
     }
     if modes < 1 {
-        return false;
+        return 5;
     }
-    modes <= 32
+    if 32 < modes {
+        return 5;
+    }
+    0
 }
 
 // An operation's numbers, in a table of this length and these counts.
-pub fn wide_ok(len: u32, boards: u32, cells: u32, modes: u32, w: Wide) -> bool
+pub fn wide_wrong(len: u32, boards: u32, cells: u32, modes: u32, w: Wide) -> usize
     requires { ⌜ (boards ≤ 32) × (cells ≤ 32) × (modes ≤ 32) ⌝ }
-    ensures { λ r. ⌜ r ≡ opOk (counted len boards cells modes) (wideOf w) ⌝ }
+    ensures { λ r. ⌜ r ≡ opWrong (counted len boards cells modes) (wideOf w) ⌝ }
 {
     let p = len as u64;
+    if 65535 < w.start {
+        return 3;
+    }
     if w.dur < 1 {
-        return false;
+        return 5;
     }
     if p < w.dur {
-        return false;
+        return 5;
     }
     if p - w.dur < w.start {
-        return false;
+        return 5;
     }
     if !sets::is_set_of(boards, w.boards) {
-        return false;
+        return 7;
     }
     if !sets::is_within(cells, w.reads) {
-        return false;
+        return 9;
     }
     if !sets::is_within(cells, w.writes) {
-        return false;
+        return 13;
     }
-    sets::is_set_of(modes, w.modes)
+    if !sets::is_set_of(modes, w.modes) {
+        return 17;
+    }
+    0
 }
 
 // The operation of numbers that are in range.
 pub fn narrow(len: u32, boards: u32, cells: u32, modes: u32, w: Wide) -> Op
-    requires { ⌜ (boards ≤ 32) × (cells ≤ 32) × (modes ≤ 32) × (opOk (counted len boards cells modes) (wideOf w) ≡ true) ⌝ }
+    requires { ⌜ (boards ≤ 32) × (cells ≤ 32) × (modes ≤ 32) × (opWrong (counted len boards cells modes) (wideOf w) ≡ 0) ⌝ }
     ensures { λ r. ⌜ opOf r ≡ wideOf w ⌝ }
 {
     Op {

@@ -5,7 +5,7 @@ use mathlib.Core.List.{List}
 use Rattle.rules.specs.Table.{Op, Table}
 use Rattle.rules.specs.Verdicts.{Verdict, accepted, _then_, onwards}
 use Rattle.rules.specs.Bytes.{opAt}
-use Rattle.rules.specs.Judge.{repeatTest, opOk, headOf, withOps, opsPlace, headTest, opsFrom}
+use Rattle.rules.specs.Judge.{repeatTest, opWrong, headOf, withOps, opsPlace, headTest, opsFrom}
 use Rattle.fields.specs.Verdicts.{refusalOf}
 use Rattle.table.specs.Tables.{opOf}
 use Rattle.table.specs.declared.Table as code
@@ -15,7 +15,7 @@ use Rattle.reading.specs.declared.Next.the-variants.{Here, Bad}
 
 -- one operation's field, when `left` more may come, with the operation
 unfoldable pub opVerdict : Table → List ℕ → ℕ → ℕ → Verdict Op
-opVerdict T s left at = repeatTest s at left 4 18 (opOk T (opAt s at)) then accepted (opAt s at)
+opVerdict T s left at = repeatTest s at left 4 18 (opWrong T (opAt s at)) then accepted (opAt s at)
 
 -- the same by the length and the counts of the code's table, which holds the operations before this one
 abbrev pub nextVerdict : code.Table → List ℕ → ℕ → Verdict Op

@@ -2,22 +2,22 @@
 -- Assumes nothing.
 use Prim.Native.Nat.{ℕ, _+_, _-_, _*_, _<_, _≤_}
 use mathlib.Core.Path.{_≡_, refl, sym, ap, _∙_}
-use mathlib.Core.Bool.{Bool, true, false}
 use mathlib.Core.List.{List, [], _∷_, _++_, append-assoc, append-nil}
 use native.Mathlib.Omega.{arith}
 use lib.ListN.{length, length-append}
 use Rattle.rules.specs.Table as rules
 use Rattle.rules.specs.Verdicts.{Verdict, accepted, refused, RANGE, _then_, onwards, more}
 use Rattle.rules.specs.Bytes.{num8, opAt}
-use Rattle.rules.specs.Judge.{ranged, opOk, headOf, withOps, opsPlace, opsFrom}
+use Rattle.rules.specs.Judge.{ranged, opWrong, headOf, withOps, opsPlace, opsFrom}
 use Rattle.theory.proofs.Verdicts.{then-accepts, then-refuses, then-first, onwards-accepts}
-use Rattle.theory.proofs.Bytes.{ranged-yes, no-field}
+use Rattle.theory.proofs.Ranges.{ranged-yes, ranged-no}
+use Rattle.theory.proofs.Bytes.{no-field}
 use Rattle.fields.specs.declared.Refusal.{Refusal}
 use Rattle.fields.specs.declared.Verdict.the-variants.{Accepted}
 use Rattle.fields.specs.Verdicts.{refusalOf}
 use Rattle.fields.specs.RefusalLaws.{then-refusal, onwards-refusal}
 use Rattle.fields.specs.Fields.{repeatOf}
-use Rattle.fields.specs.FieldLaws.{repeat-split, repeat-whole, from-next, ranged-no}
+use Rattle.fields.specs.FieldLaws.{repeat-split, repeat-whole, from-next}
 use Rattle.table.specs.declared.Op.{Op}
 use Rattle.table.specs.declared.Table.{Table}
 use Rattle.table.specs.Tables.{opOf, tableIn, withOp, JudgedAs}
@@ -29,26 +29,26 @@ use Rattle.heads.specs.HeadLaws.{HeadFits}
 -- ---- one operation
 
 -- what was judged of the numbers read is so of the operation that has them
-pub op-judged : (T : rules.Table) {w o : rules.Op} {b : Bool} → b ≡ opOk T w → w ≡ o → opOk T o ≡ b
-op-judged T e h = sym (e ∙ ap (opOk T) h)
+pub op-judged : (T : rules.Table) {w o : rules.Op} {wrong : ℕ} → wrong ≡ opWrong T w → w ≡ o → opWrong T o ≡ wrong
+op-judged T e h = sym (e ∙ ap (opWrong T) h)
 
 module _ (T : rules.Table) (s : List ℕ) (left at : ℕ) where
-  op-split : opVerdict T s left at ≡ ((repeatOf s at left 4 18 then ranged (opOk T (opAt s at)) at) then accepted (opAt s at))
+  op-split : opVerdict T s left at ≡ ((repeatOf s at left 4 18 then ranged (opWrong T (opAt s at)) at) then accepted (opAt s at))
   unfolding opVerdict
-  op-split = rw (repeat-split s at 4 18 (opOk T (opAt s at)) left)
+  op-split = rw (repeat-split s at 4 18 (opWrong T (opAt s at)) left)
 
   -- an operation's field is refused where its tests before the ranges refuse
   pub op-bad : (r : Refusal) → refusalOf r ≡ repeatOf s at left 4 18 → refusalOf r ≡ opVerdict T s left at
-  op-bad r e = sym (op-split ∙ then-refusal r _ (then-refusal r (ranged (opOk T (opAt s at)) at) (sym e)))
+  op-bad r e = sym (op-split ∙ then-refusal r _ (then-refusal r (ranged (opWrong T (opAt s at)) at) (sym e)))
 
   module _ (e : accepted tt ≡ repeatOf s at left 4 18) where
-    op-first : (repeatOf s at left 4 18 then ranged (opOk T (opAt s at)) at) ≡ ranged (opOk T (opAt s at)) at
+    op-first : (repeatOf s at left 4 18 then ranged (opWrong T (opAt s at)) at) ≡ ranged (opWrong T (opAt s at)) at
     op-first = then-accepts _ (sym e)
 
-    pub op-range : opOk T (opAt s at) ≡ false → refused RANGE at 0 ≡ opVerdict T s left at
-    op-range h = sym (op-split ∙ then-refuses _ (op-first ∙ ranged-no _ at h))
+    pub op-range : {wrong : ℕ} → opWrong T (opAt s at) ≡ wrong → (wrong ≡ 0 → ⊥) → refused RANGE at (at + wrong) ≡ opVerdict T s left at
+    op-range {wrong} e n = sym (op-split ∙ then-refuses _ (op-first ∙ ap (λ (w : ℕ). ranged w at) e ∙ ranged-no wrong at n))
 
-    pub op-fine : opOk T (opAt s at) ≡ true → accepted (opAt s at) ≡ opVerdict T s left at
+    pub op-fine : opWrong T (opAt s at) ≡ 0 → accepted (opAt s at) ≡ opVerdict T s left at
     op-fine h = sym (op-split ∙ then-accepts _ (op-first ∙ ranged-yes _ at h))
 
 -- ---- operations
@@ -71,13 +71,13 @@ module _ {A : Type 0} where
 module _ (T : rules.Table) (s : List ℕ) where
   ops-end : (left at : ℕ) → length s ≤ at → opsFrom T s left at ≡ accepted []
   unfolding opsFrom
-  ops-end left at = no-field 4 18 (opOk T) opAt s at left
+  ops-end left at = no-field 4 18 (opWrong T) opAt s at left
 
   -- the operation at a place inside the input, and those behind it
   ops-next : (left at : ℕ) → at < length s
       → opsFrom T s left at ≡ onwards (opVerdict T s left at) (λ o. more o (opsFrom T s (left - 1) (at + 21)))
   unfolding opsFrom opVerdict
-  ops-next = from-next 4 18 (opOk T) opAt s
+  ops-next = from-next 4 18 (opWrong T) opAt s
 
 -- where the reading of the operations stands: these are read, the table holds them, and the rest comes from a place on
 pub record SoFar (s : List ℕ) (t : Table) (at : ℕ) : Type 0 where
@@ -117,7 +117,7 @@ module _ {s : List ℕ} {t : Table} {at : ℕ} (so : SoFar s t at) where
 
   -- so the next field is judged by the table as it is by the head
   so-same : nextVerdict t s at ≡ opVerdict (headOf s) s (32 - length (so .ops)) at
-  unfolding opVerdict opOk
+  unfolding opVerdict opWrong
   so-same = ap (λ (u : Table). nextVerdict u s at) (so .held)
 
   -- a field that is refused
@@ -135,7 +135,7 @@ module _ {s : List ℕ} {t : Table} {at : ℕ} (so : SoFar s t at) where
       let H = headOf s in
       let os = so .ops in
       let here = sym (e ∙ so-same) in
-      let (whole, some) = repeat-whole 4 18 (opOk H) opAt s (32 - length os) at (then-first _ _ here .1) in
+      let (whole, some) = repeat-whole 4 18 (opWrong H) opAt s (32 - length os) at (then-first _ _ here .1) in
       let count : t .count ≡ length os = ap (λ (u : Table). u .count) (so .held) in
       let few : length os < 32 = omega arith in
       let longer = length-append os (opOf o ∷ []) in

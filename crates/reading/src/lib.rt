@@ -48,8 +48,9 @@ fn next_op(s: &[u8], at: usize, left: usize, len: u32, boards: u32, cells: u32, 
         return Next::Bad(r);
     }
     let w = read_op(s, at);
-    if !ranges::wide_ok(len, boards, cells, modes, w) {
-        return Next::Bad(Refusal::Range(at));
+    let wrong = ranges::wide_wrong(len, boards, cells, modes, w);
+    if wrong != 0 {
+        return Next::Bad(Refusal::Range(at, at + wrong));
     }
     Next::Here(ranges::narrow(len, boards, cells, modes, w))
 }

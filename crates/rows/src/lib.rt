@@ -2,7 +2,7 @@
 ghost use mathlib.Core.Path.{_≡_};
 ghost use Prim.Native.Nat.{_≤_};
 ghost use Rattle.rules.specs.Rows.{foldAt, unfoldAt};
-ghost use Rattle.rules.specs.Judge.{rowOk};
+ghost use Rattle.rules.specs.Judge.{rowWrong};
 ghost use Rattle.rows.specs.Rows.{ticksOf, rowOf, InFields};
 
 // A date.
@@ -42,16 +42,20 @@ pub fn unfold(q: Ticks, r: Row) -> Ticks
     Ticks(f * p + s)
 }
 
-// A row of a reply is in its range: the folded start below the period, the unfolded start at most 999.
-pub fn row_ok(q: Ticks, r: Row) -> bool
+// Which number of a reply's row is wrong first: where it begins in its field, or 0 where none is wrong. The folded start is below the period, the
+// unfolded start at most 999, and that blames the start index.
+pub fn row_wrong(q: Ticks, r: Row) -> usize
     requires { ⌜ InFields q r ⌝ }
-    ensures { λ x. ⌜ x ≡ rowOk (ticksOf q) (rowOf r) ⌝ }
+    ensures { λ x. ⌜ x ≡ rowWrong (ticksOf q) (rowOf r) ⌝ }
 {
     let p = q.0;
     let s = r.start.0;
     if p <= s {
-        return false;
+        return 3;
     }
     let t = unfold(q, r);
-    t.0 <= 999
+    if 999 < t.0 {
+        return 5;
+    }
+    0
 }

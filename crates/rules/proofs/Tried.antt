@@ -369,7 +369,7 @@ verdicts =
     ∷ refused 2 0 0
     ∷ refused 1 0 0
     ∷ refused 3 0 0
-    ∷ refused 4 0 0
+    ∷ refused 4 0 3
     ∷ refused 2 5 0
     ∷ refused 2 11 0
     ∷ refused 2 22 0
@@ -378,9 +378,9 @@ verdicts =
     ∷ refused 2 43 0
     ∷ refused 3 43 0
     ∷ refused 1 43 0
-    ∷ refused 4 0 0
+    ∷ refused 4 0 3
     ∷ accepted (oneMode 1000 1 0 (opn 1 3 1 0 0 1 ∷ []))
-    ∷ refused 4 22 0
+    ∷ refused 4 22 27
     ∷ accepted (oneMode 5 1 0 (opn 1 4 1 0 0 1 ∷ []))
     ∷ refused 6 0 1
     ∷ refused 1 64 0
@@ -415,7 +415,7 @@ race-next : judge (tableBytes (oneMode 4 4 1 (opn 0 2 1 0 1 1 ∷ opn 1 2 2 1 0 
 unfolding judge tableBytes
 race-next = refl
 
--- ---- both sides of every range. A table's bytes, judged; in range; RANGE at a field
+-- ---- both sides of every range. A table's bytes, judged; in range; RANGE at a field, with the place of the number that is wrong
 tried : Table → Test
 unfolding judge tableBytes _then_
 tried T = judge (tableBytes T) then accepted tt
@@ -423,32 +423,32 @@ tried T = judge (tableBytes T) then accepted tt
 abbrev good : Test
 good = accepted tt
 
-abbrev range : ℕ → Test
-range at = refused 4 at 0
+abbrev range : ℕ → ℕ → Test
+range at place = refused 4 at place
 
 -- "table length p, in ticks | 1 to 1000"
-lengths : map (λ (p : ℕ). tried (oneMode p 1 0 (opn 0 1 1 0 0 1 ∷ []))) (0 ∷ 1 ∷ 1000 ∷ 1001 ∷ []) ≡ range 0 ∷ good ∷ good ∷ range 0 ∷ []
+lengths : map (λ (p : ℕ). tried (oneMode p 1 0 (opn 0 1 1 0 0 1 ∷ []))) (0 ∷ 1 ∷ 1000 ∷ 1001 ∷ []) ≡ range 0 3 ∷ good ∷ good ∷ range 0 3 ∷ []
 unfolding tried
 lengths = refl
 
 -- "boards | 1 to 16", "cells | 0 to 32", "modes | 1 to 32"
-boards-counted : map (λ (b : ℕ). tried (oneMode 5 b 0 (opn 0 1 1 0 0 1 ∷ []))) (0 ∷ 1 ∷ 16 ∷ 17 ∷ []) ≡ range 5 ∷ good ∷ good ∷ range 5 ∷ []
+boards-counted : map (λ (b : ℕ). tried (oneMode 5 b 0 (opn 0 1 1 0 0 1 ∷ []))) (0 ∷ 1 ∷ 16 ∷ 17 ∷ []) ≡ range 5 8 ∷ good ∷ good ∷ range 5 8 ∷ []
 unfolding tried
 boards-counted = refl
 
-cells-counted : map (λ (c : ℕ). tried (oneMode 5 1 c (opn 0 1 1 0 0 1 ∷ []))) (0 ∷ 32 ∷ 33 ∷ []) ≡ good ∷ good ∷ range 5 ∷ []
+cells-counted : map (λ (c : ℕ). tried (oneMode 5 1 c (opn 0 1 1 0 0 1 ∷ []))) (0 ∷ 32 ∷ 33 ∷ []) ≡ good ∷ good ∷ range 5 9 ∷ []
 unfolding tried
 cells-counted = refl
 
 moded : ℕ → Table
 moded m = record { len = 5; boards = 1; cells = 0; modes = m; first = 1; follow = replicate m 1; ops = opn 0 1 1 0 0 1 ∷ [] }
 
-modes-counted : map (λ (m : ℕ). tried (moded m)) (0 ∷ 1 ∷ 32 ∷ 33 ∷ []) ≡ range 5 ∷ good ∷ good ∷ range 5 ∷ []
+modes-counted : map (λ (m : ℕ). tried (moded m)) (0 ∷ 1 ∷ 32 ∷ 33 ∷ []) ≡ range 5 10 ∷ good ∷ good ∷ range 5 10 ∷ []
 unfolding tried moded
 modes-counted = refl
 
 -- "a duration d of at least 1, with t + d at most p": of an operation that starts at 1 in a table of 5
-durations : map (λ (d : ℕ). tried (oneMode 5 1 0 (opn 1 d 1 0 0 1 ∷ []))) (0 ∷ 1 ∷ 4 ∷ 5 ∷ []) ≡ range 22 ∷ good ∷ good ∷ range 22 ∷ []
+durations : map (λ (d : ℕ). tried (oneMode 5 1 0 (opn 1 d 1 0 0 1 ∷ []))) (0 ∷ 1 ∷ 4 ∷ 5 ∷ []) ≡ range 22 27 ∷ good ∷ good ∷ range 22 27 ∷ []
 unfolding tried
 durations = refl
 
@@ -463,7 +463,7 @@ unfolding tried
 each-set f = map (λ (s : ℕ). tried (f s)) (0 ∷ 3 ∷ 4 ∷ [])
 
 sets-of-modes : each-set (λ s. setted s 1 1 (opn 0 1 1 0 0 1)) ∷ each-set (λ s. setted 1 s 1 (opn 0 1 1 0 0 1)) ∷ each-set (λ s. setted 1 1 s (opn 0 1 1 0 0 1)) ∷ []
-    ≡ replicate 3 (range 11 ∷ good ∷ range 11 ∷ [])
+    ≡ map (λ (b : ℕ). range 11 b ∷ good ∷ range 11 b ∷ []) (14 ∷ 18 ∷ 22 ∷ [])
 unfolding each-set setted
 sets-of-modes = refl
 
@@ -472,10 +472,10 @@ sets-of-steps : each-set (λ s. setted 1 1 1 (opn 0 1 s 0 0 1))
     ∷ each-set (λ s. setted 1 1 1 (opn 0 1 1 0 s 1))
     ∷ each-set (λ s. setted 1 1 1 (opn 0 1 1 0 0 s))
     ∷ []
-    ≡ (range 26 ∷ good ∷ range 26 ∷ [])
-    ∷ (good ∷ good ∷ range 26 ∷ [])
-    ∷ (good ∷ good ∷ range 26 ∷ [])
-    ∷ (range 26 ∷ good ∷ range 26 ∷ [])
+    ≡ (range 26 33 ∷ good ∷ range 26 33 ∷ [])
+    ∷ (good ∷ good ∷ range 26 35 ∷ [])
+    ∷ (good ∷ good ∷ range 26 39 ∷ [])
+    ∷ (range 26 43 ∷ good ∷ range 26 43 ∷ [])
     ∷ []
 unfolding each-set setted
 sets-of-steps = refl
@@ -516,7 +516,7 @@ numbers-judged : worded 0 [] one-op
     ∷ stepped (joined (λ (n : ℕ). one-op) (replicate 32 0) ++ (1 ∷ []))
     ∷ []
     ≡ refused 3 11 0
-    ∷ refused 4 11 0
+    ∷ refused 4 11 14
     ∷ refused 3 11 0
     ∷ refused 2 22 0
     ∷ refused 1 22 0
@@ -541,7 +541,7 @@ too-large : handed 65541 1 0 1 1 (1 ∷ []) one-op
     ∷ stepped (1 ∷ 3 ∷ 1 ∷ 0 ∷ 4294967296 ∷ 1 ∷ [])
     ∷ stepped (1 ∷ 3 ∷ 1 ∷ 0 ∷ 0 ∷ 4294967297 ∷ [])
     ∷ []
-    ≡ range 0 ∷ (replicate 3 (range 5) ++ replicate 2 (range 11) ++ replicate 6 (range 22))
+    ≡ range 0 3 ∷ (map (range 5) (8 ∷ 9 ∷ 10 ∷ []) ++ map (range 11) (14 ∷ 18 ∷ []) ++ map (range 22) (25 ∷ 27 ∷ 29 ∷ 31 ∷ 35 ∷ 39 ∷ []))
 unfolding stepped one-op
 too-large = refl
 
@@ -566,14 +566,87 @@ rowed : ℕ → ℕ → ℕ → Test
 unfolding judgeReply replyBytes _then_
 rowed q s f = judgeReply (replyBytes (record { period = ticks q; rows = row s f ∷ [] })) then accepted tt
 
-periods : map (λ (q : ℕ). rowed q 0 0) (0 ∷ 1 ∷ 1000 ∷ 1001 ∷ []) ≡ range 0 ∷ good ∷ good ∷ range 0 ∷ []
+periods : map (λ (q : ℕ). rowed q 0 0) (0 ∷ 1 ∷ 1000 ∷ 1001 ∷ []) ≡ range 0 3 ∷ good ∷ good ∷ range 0 3 ∷ []
 unfolding rowed
 periods = refl
 
 -- at 3 and at 500; the last would be in range if numbers had 16 bits
-rows : rowed 3 2 0 ∷ rowed 3 3 0 ∷ rowed 500 499 1 ∷ rowed 500 0 2 ∷ rowed 1000 0 8192 ∷ [] ≡ good ∷ range 5 ∷ good ∷ range 5 ∷ range 5 ∷ []
+rows : rowed 3 2 0 ∷ rowed 3 3 0 ∷ rowed 500 499 1 ∷ rowed 500 0 2 ∷ rowed 1000 0 8192 ∷ [] ≡ good ∷ range 5 8 ∷ good ∷ range 5 10 ∷ range 5 10 ∷ []
 unfolding rowed
 rows = refl
+
+-- ---- document 02, No. 7, as one list: which number is blamed, of a table's bytes, of numbers handed over and of a reply
+
+-- K1 with other counts, and as many follower words, all one set; with another operation; with one more
+counted : ℕ → ℕ → ℕ → ℕ → ℕ → Test
+unfolding tried
+counted boards cells modes first after =
+    tried (record { len = 5; boards = boards; cells = cells; modes = modes; first = first; follow = replicate modes after; ops = opn 1 3 1 0 0 1 ∷ [] })
+
+timed : ℕ → ℕ → ℕ → ℕ → ℕ → ℕ → Test
+unfolding tried
+timed t d b r w m = tried (oneMode 5 1 0 (opn t d b r w m ∷ []))
+
+-- two rows at a period
+paired : ℕ → ℕ → ℕ → ℕ → ℕ → Test
+unfolding judgeReply replyBytes _then_
+paired q s f t g = judgeReply (replyBytes (record { period = ticks q; rows = row s f ∷ row t g ∷ [] })) then accepted tt
+
+blamed : List Test
+unfolding tried counted timed rowed paired handed stepped one-op k1-with judge tableBytes _then_
+blamed =
+    -- K1 with duration 5; a start at p, and the highest, with a duration of 1; no duration, and all behind it wrong too
+    timed 1 5 1 0 0 1
+    ∷ timed 5 1 1 0 0 1
+    ∷ timed 65535 1 1 0 0 1
+    ∷ timed 5 0 0 1 1 0
+    -- each of the others, with all behind it wrong too
+    ∷ timed 1 3 0 1 1 0
+    ∷ timed 1 3 1 1 1 0
+    ∷ timed 1 3 1 0 1 0
+    ∷ timed 1 3 1 0 0 0
+    -- the second operation, where the first is fine; the first, where both are wrong, and where the input then ends inside a field
+    ∷ tried (oneMode 5 1 0 (opn 1 3 1 0 0 1 ∷ opn 1 0 1 0 0 1 ∷ []))
+    ∷ tried (oneMode 5 1 0 (opn 1 3 2 0 0 1 ∷ opn 1 0 1 0 0 1 ∷ []))
+    ∷ (judge (k1-with 5 0 1 ++ (4 ∷ [])) then accepted tt)
+    -- the length before the counts, and the counts one after the other
+    ∷ tried (oneMode 0 0 0 [])
+    ∷ counted 0 33 0 0 0
+    ∷ counted 17 33 33 0 0
+    ∷ counted 1 33 0 0 0
+    ∷ counted 1 32 33 0 0
+    -- the first modes, the followers of mode 0, and those of mode 2 alone
+    ∷ counted 1 0 3 0 0
+    ∷ counted 1 0 3 1 8
+    ∷ tried (record { len = 5; boards = 1; cells = 0; modes = 3; first = 1; follow = 1 ∷ 7 ∷ 0 ∷ []; ops = opn 1 3 1 0 0 1 ∷ [] })
+    -- handed over: a start too large for its field before all else, one that is not; counts, and sets, of which two are too large; the start of
+    -- a second operation; numbers missing are SHORT
+    ∷ stepped (65536 ∷ 0 ∷ 0 ∷ 1 ∷ 1 ∷ 0 ∷ [])
+    ∷ stepped (65535 ∷ 1 ∷ 0 ∷ 1 ∷ 1 ∷ 0 ∷ [])
+    ∷ handed 5 257 256 1 1 (1 ∷ []) one-op
+    ∷ handed 5 1 256 257 1 (1 ∷ []) one-op
+    ∷ handed 5 1 0 2 4294967297 (4294967297 ∷ 4294967297 ∷ []) one-op
+    ∷ handed 5 1 0 2 1 (1 ∷ 4294967297 ∷ []) one-op
+    ∷ stepped (one-op ++ (65536 ∷ 3 ∷ 1 ∷ 0 ∷ 0 ∷ 1 ∷ []))
+    ∷ stepped (one-op ++ (65536 ∷ 3 ∷ 1 ∷ 0 ∷ 0 ∷ []))
+    -- a folded start at the period, whatever its start index; an unfolded start of 1000; the second row; the period before the rows
+    ∷ rowed 500 500 2
+    ∷ rowed 500 0 2
+    ∷ paired 500 0 1 499 65535
+    ∷ paired 500 0 1 500 0
+    ∷ paired 1001 1001 1 0 0
+    ∷ []
+
+places-told : blamed
+    ≡ replicate 4 (range 22 27)
+    ++ map (range 22) (29 ∷ 31 ∷ 35 ∷ 39 ∷ [])
+    ++ (range 43 48 ∷ range 22 29 ∷ range 22 27 ∷ [])
+    ++ (range 0 3 ∷ map (range 5) (8 ∷ 8 ∷ 9 ∷ 10 ∷ []))
+    ++ map (range 11) (14 ∷ 18 ∷ 26 ∷ [])
+    ++ (range 22 25 ∷ range 22 27 ∷ range 5 8 ∷ range 5 9 ∷ range 11 14 ∷ range 11 22 ∷ range 43 46 ∷ refused 1 43 0 ∷ [])
+    ++ (range 5 8 ∷ range 5 10 ∷ range 12 17 ∷ range 12 15 ∷ range 0 3 ∷ [])
+unfolding blamed
+places-told = refl
 
 -- ---- a lent buffer: "K1 into 11 bytes: refused 8 12 0; into 12 accepted"; the rest of a longer one stays
 k1-no-room : put (replyBytes (replyOf k1 3)) (replicate 11 9) ≡ record { answer = refused 8 12 0; buffer = replicate 11 9 }

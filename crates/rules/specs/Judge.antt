@@ -1,8 +1,9 @@
--- Document 01, "Numbers of refusal": the verdict on a table's bytes, on a table handed over as numbers, and on a reply's bytes.
+-- Document 01, "Numbers of refusal": the verdict on a table's bytes, on a table handed over as numbers, and on a reply's bytes. Document 02,
+-- No. 7: which number of a field RANGE blames.
 -- Assumes nothing.
 use Prim.Native.Nat.{ℕ, zero, suc, _+_, _-_, _*_, _^_}
 use mathlib.Core.Bool.{Bool, cond, not, _&&_, _||_}
-use mathlib.Core.List.{List, [], _∷_}
+use mathlib.Core.List.{List, [], _∷_, map}
 use lib.Dec.{leb, ltb, eqb}
 use lib.Bits.{bitOr}
 use lib.ListN.{length, getD, drop}
@@ -44,58 +45,97 @@ unfoldable pub complete : List ℕ → ℕ → ℕ → Test
 unfolding refuseIf
 complete s at size = refuseIf (ltb (length s) (at + 3 + size)) SHORT at 0
 
--- RANGE: "a number or set outside its range above"
-unfoldable pub ranged : Bool → ℕ → Test
+-- RANGE: "a number or set outside its range above". "In RANGE, let b be the offset of the first byte of the first wrong number": `wrong` is
+-- where in its field that number begins, and 0 where none is wrong, since a field begins with its tag.
+unfoldable pub ranged : ℕ → ℕ → Test
 unfolding refuseIf
-ranged ok at = refuseIf (not ok) RANGE at 0
+ranged wrong at = refuseIf (not (eqb wrong 0)) RANGE at (at + wrong)
 
 -- a field that is there once
-unfoldable pub fieldTest : List ℕ → ℕ → ℕ → ℕ → Bool → Test
+unfoldable pub fieldTest : List ℕ → ℕ → ℕ → ℕ → ℕ → Test
 unfolding needed header due sized complete ranged _then_
-fieldTest s at tag size ok =
-    needed s at then header s at then due s at tag then sized s at size then complete s at size then ranged ok at
+fieldTest s at tag size wrong =
+    needed s at then header s at then due s at tag then sized s at size then complete s at size then ranged wrong at
 
 -- a field that may be repeated
-unfoldable pub repeatTest : List ℕ → ℕ → ℕ → ℕ → ℕ → Bool → Test
+unfoldable pub repeatTest : List ℕ → ℕ → ℕ → ℕ → ℕ → ℕ → Test
 unfolding header due notMany sized complete ranged _then_
-repeatTest s at left tag size ok =
-    header s at then due s at tag then notMany at left then sized s at size then complete s at size then ranged ok at
+repeatTest s at left tag size wrong =
+    header s at then due s at tag then notMany at left then sized s at size then complete s at size then ranged wrong at
 
 -- the repeated fields from a place to the end of the input, when `left` more may come
-module _ {A : Type 0} (tag size : ℕ) (ok : A → Bool) (value : List ℕ → ℕ → A) where
+module _ {A : Type 0} (tag size : ℕ) (wrong : A → ℕ) (value : List ℕ → ℕ → A) where
   unfoldable pub fieldsFrom : List ℕ → ℕ → ℕ → Verdict (List A)
   unfolding repeatTest _then_ more
   fieldsFrom s zero at =
-      cond (leb (length s) at) (accepted []) (repeatTest s at 0 tag size (ok (value s at)) then accepted [])
+      cond (leb (length s) at) (accepted []) (repeatTest s at 0 tag size (wrong (value s at)) then accepted [])
   fieldsFrom s (suc left) at =
       cond (leb (length s) at) (accepted [])
-      (repeatTest s at (suc left) tag size (ok (value s at)) then more (value s at) (fieldsFrom s left (at + 3 + size)))
+      (repeatTest s at (suc left) tag size (wrong (value s at)) then more (value s at) (fieldsFrom s left (at + 3 + size)))
 
--- ---- ranges
+-- ---- ranges: the numbers of a field one after the other, and which of them is wrong first
 
-unfoldable pub lenOk : ℕ → Bool
-lenOk p = leb 1 p && leb p 1000
+-- a number of a field: how many bytes it has, and whether it is in its range
+pub record Number : Type 0 where
+  pub bytes : ℕ
+  pub ok : Bool
 
-unfoldable pub countsOk : ℕ → ℕ → ℕ → Bool
-countsOk boards cells modes = leb 1 boards && (leb boards 16 && (leb cells 32 && (leb 1 modes && leb modes 32)))
+abbrev pub number : ℕ → Bool → Number
+number bytes ok = record { bytes = bytes; ok = ok }
+
+-- "the first wrong number, in layout order": where it begins, when the first of all begins at a place; 0 where none is wrong
+unfoldable pub wrongFrom : ℕ → List Number → ℕ
+wrongFrom place [] = 0
+wrongFrom place (n ∷ ns) = let rest = wrongFrom (place + n .bytes) ns in cond (n .ok) rest place
+
+-- in a field the first number begins behind the tag and the length
+unfoldable pub firstWrong : List Number → ℕ
+unfolding wrongFrom
+firstWrong = wrongFrom 3
+
+-- a table's length, and a reply's period
+abbrev pub lenRanges : ℕ → List Number
+lenRanges p = number 2 (leb 1 p && leb p 1000) ∷ []
+
+unfoldable pub lenWrong : ℕ → ℕ
+unfolding firstWrong
+lenWrong p = firstWrong (lenRanges p)
+
+abbrev pub countRanges : ℕ → ℕ → ℕ → List Number
+countRanges boards cells modes =
+    number 1 (leb 1 boards && leb boards 16) ∷ number 1 (leb cells 32) ∷ number 1 (leb 1 modes && leb modes 32) ∷ []
+
+unfoldable pub countsWrong : ℕ → ℕ → ℕ → ℕ
+unfolding firstWrong
+countsWrong boards cells modes = firstWrong (countRanges boards cells modes)
 
 -- "not empty", and "A set names nothing beyond the table's counts."
 unfoldable pub setOk : ℕ → ℕ → Bool
 setOk n s = ltb 0 s && ltb s (2 ^ n)
 
-unfoldable pub eachSetOk : ℕ → List ℕ → Bool
-unfolding setOk
-eachSetOk n [] = Bool.true
-eachSetOk n (s ∷ ss) = setOk n s && eachSetOk n ss
+-- the first modes and the followers of each mode
+abbrev pub setRanges : ℕ → List ℕ → List Number
+setRanges n ss = map (λ (s : ℕ). number 4 (setOk n s)) ss
 
--- an operation, with the length and the counts of T
-unfoldable pub opOk : Table → Op → Bool
-unfolding setOk
-opOk T o =
-    leb 1 (o .dur)
-    && (leb (o .start + o .dur) (T .len)
-    && (setOk (T .boards) (o .boards)
-    && (ltb (o .reads) (2 ^ T .cells) && (ltb (o .writes) (2 ^ T .cells) && setOk (T .modes) (o .modes)))))
+unfoldable pub setsWrong : ℕ → List ℕ → ℕ
+unfolding firstWrong setOk
+setsWrong n ss = firstWrong (setRanges n ss)
+
+-- an operation, with the length and the counts of T. A start has no range of its own, but has to fit its field where it is handed over as a
+-- number; "an operation that ends after p blames its duration".
+abbrev pub opRanges : Table → Op → List Number
+opRanges T o =
+    number 2 (ltb (o .start) 65536)
+    ∷ number 2 (leb 1 (o .dur) && leb (o .start + o .dur) (T .len))
+    ∷ number 2 (setOk (T .boards) (o .boards))
+    ∷ number 4 (ltb (o .reads) (2 ^ T .cells))
+    ∷ number 4 (ltb (o .writes) (2 ^ T .cells))
+    ∷ number 4 (setOk (T .modes) (o .modes))
+    ∷ []
+
+unfoldable pub opWrong : Table → Op → ℕ
+unfolding firstWrong setOk
+opWrong T o = firstWrong (opRanges T o)
 
 -- ---- CLASH and RACE
 
@@ -159,18 +199,18 @@ opsPlace modes = 18 + 4 * modes
 
 -- "Table fields, in this order and no other"
 unfoldable pub headTest : List ℕ → Test
-unfolding headOf fieldTest lenOk countsOk setOk eachSetOk needed _then_
+unfolding headOf fieldTest lenWrong countsWrong setsWrong needed _then_
 headTest s =
     let T = headOf s in
-    fieldTest s 0 1 2 (lenOk (T .len))
-    then fieldTest s 5 2 3 (countsOk (T .boards) (T .cells) (T .modes))
-    then fieldTest s 11 3 (4 + 4 * T .modes) (setOk (T .modes) (T .first) && eachSetOk (T .modes) (T .follow))
+    fieldTest s 0 1 2 (lenWrong (T .len))
+    then fieldTest s 5 2 3 (countsWrong (T .boards) (T .cells) (T .modes))
+    then fieldTest s 11 3 (4 + 4 * T .modes) (setsWrong (T .modes) (T .first ∷ T .follow))
     then needed s (opsPlace (T .modes))
 
 -- the operations' fields from a place to the end of the input, when so many more may come
 unfoldable pub opsFrom : Table → List ℕ → ℕ → ℕ → Verdict (List Op)
-unfolding fieldsFrom opOk
-opsFrom T = fieldsFrom 4 18 (opOk T) opAt
+unfolding fieldsFrom opWrong
+opsFrom T = fieldsFrom 4 18 (opWrong T) opAt
 
 unfoldable pub judge : List ℕ → Verdict Table
 unfolding headTest headOf opsFrom judgeWhole onwards _then_
@@ -215,24 +255,24 @@ headOfNumbers N =
 
 -- "judged as if first written in this layout and then read": each field at the offset that it would have. "A wrong count of follower words
 -- is SIZE, a number too large for its field RANGE, an operation with numbers missing SHORT." A number that is too large for its field is
--- outside its range too, since every range fits its field.
+-- outside its range too, since every range fits its field; RANGE blames it at the place that it would have.
 unfoldable pub numbersTest : Numbers → Test
-unfolding ranged lenOk countsOk setOk eachSetOk refuseIf _then_
+unfolding ranged lenWrong countsWrong setsWrong refuseIf _then_
 numbersTest N =
-    ranged (lenOk (N .len)) 0
-    then ranged (countsOk (N .boards) (N .cells) (N .modes)) 5
+    ranged (lenWrong (N .len)) 0
+    then ranged (countsWrong (N .boards) (N .cells) (N .modes)) 5
     then refuseIf (not (eqb (length (N .follow)) (N .modes))) SIZE 11 0
-    then ranged (setOk (N .modes) (N .first) && eachSetOk (N .modes) (N .follow)) 11
+    then ranged (setsWrong (N .modes) (N .first ∷ N .follow)) 11
     then refuseIf (eqb (length (N .ops)) 0) ORDER (opsPlace (N .modes)) 0
 
 -- the operations' numbers, when `left` more operations may come and the next would be written at a place
 unfoldable pub opsOfNumbers : Table → List ℕ → ℕ → ℕ → Verdict (List Op)
-unfolding notMany refuseIf ranged opOk _then_ more
+unfolding notMany refuseIf ranged opWrong _then_ more
 opsOfNumbers T ns zero at = cond (eqb (length ns) 0) (accepted []) (notMany at 0 then accepted [])
 opsOfNumbers T ns (suc left) at =
     cond (eqb (length ns) 0) (accepted [])
     (refuseIf (ltb (length ns) 6) SHORT at 0
-    then ranged (opOk T (opOfNumbers ns)) at
+    then ranged (opWrong T (opOfNumbers ns)) at
     then more (opOfNumbers ns) (opsOfNumbers T (drop 6 ns) left (at + 21)))
 
 unfoldable pub judgeNumbers : Numbers → Verdict Table
@@ -244,17 +284,21 @@ judgeNumbers N =
     (λ os. judgeWhole (withOps (headOfNumbers N) os))
 
 -- ---- a reply's bytes: "the period is 1 to 1000, each folded start is below it, each unfolded start is at most 999, and there are 1 to 32
--- operations"
-unfoldable pub rowOk : Ticks → Row → Bool
-rowOk q r = ltb (r .start .number) (q .number) && leb (unfoldAt q r .number) 999
+-- operations"; "a reply's unfolded start above 999" blames "its start index"
+abbrev pub rowRanges : Ticks → Row → List Number
+rowRanges q r = number 2 (ltb (r .start .number) (q .number)) ∷ number 2 (leb (unfoldAt q r .number) 999) ∷ []
+
+unfoldable pub rowWrong : Ticks → Row → ℕ
+unfolding firstWrong
+rowWrong q r = firstWrong (rowRanges q r)
 
 unfoldable pub replyTest : List ℕ → Test
-unfolding fieldTest lenOk needed _then_
-replyTest s = fieldTest s 0 17 2 (lenOk (num16 s 3)) then needed s 5
+unfolding fieldTest lenWrong needed _then_
+replyTest s = fieldTest s 0 17 2 (lenWrong (num16 s 3)) then needed s 5
 
 unfoldable pub rowsFrom : Ticks → List ℕ → ℕ → ℕ → Verdict (List Row)
-unfolding fieldsFrom rowOk
-rowsFrom q = fieldsFrom 18 4 (rowOk q) rowAt
+unfolding fieldsFrom rowWrong
+rowsFrom q = fieldsFrom 18 4 (rowWrong q) rowAt
 
 unfoldable pub judgeReply : List ℕ → Verdict Reply
 unfolding replyTest rowsFrom onwards _then_

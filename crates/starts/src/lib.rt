@@ -5,7 +5,7 @@ ghost use lib.ListN.{length};
 ghost use Rattle.rules.specs.Rows.{ticks, unfoldAt};
 ghost use Rattle.rules.specs.Verdicts.{accepted};
 ghost use Rattle.rules.specs.Bytes.{num16, rowAt};
-ghost use Rattle.rules.specs.Judge.{repeatTest, rowOk, rowsFrom, judgeReply};
+ghost use Rattle.rules.specs.Judge.{repeatTest, rowWrong, rowsFrom, judgeReply};
 ghost use Rattle.rules.specs.Answers.{IsUnfold};
 ghost use Rattle.fields.specs.Verdicts.{tested, answered, leaving};
 ghost use Rattle.rows.specs.Rows.{ticksOf, rowOf};
@@ -35,14 +35,14 @@ fn row_at(s: &[u8], at: usize) -> Row
 // The field of a row at a place inside the input, when `left` more may come.
 fn row_test(s: &[u8], at: usize, left: usize, q: Ticks) -> Verdict
     requires { ⌜ (at < length (now s)) × (q .0 < 65536) ⌝ }
-    ensures { λ r. ⌜ tested r ≡ repeatTest (now (s .entry)) at left 18 4 (rowOk (ticksOf q) (rowAt (now (s .entry)) at)) ⌝ }
+    ensures { λ r. ⌜ tested r ≡ repeatTest (now (s .entry)) at left 18 4 (rowWrong (ticksOf q) (rowAt (now (s .entry)) at)) ⌝ }
 {
     let v = reader::repeated_at(s, at, left, 18, 4);
     match v {
         Verdict::Refused(r) => Verdict::Refused(r),
         Verdict::Accepted => {
             let row = row_at(s, at);
-            fields::range_test(rows::row_ok(q, row), at)
+            fields::range_test(rows::row_wrong(q, row), at)
         }
     }
 }

@@ -3,17 +3,20 @@
 -- Assumes nothing.
 use Prim.Native.Nat.{ℕ, zero, suc, _+_, _-_, _*_, _<_, _≤_}
 use mathlib.Core.Path.{_≡_, refl, subst}
-use mathlib.Core.Bool.{Bool, true, false, not, cond, _&&_}
-use mathlib.Core.List.{List, []}
+use mathlib.Core.Bool.{Bool, true, false, not, cond}
+use mathlib.Core.List.{List, [], _∷_}
 use native.Mathlib.Omega.{arith}
 use lib.Dec.{leb, ltb, eqb}
 use lib.ListN.{length, drop}
+use borrow.Author.Tests.{eqb-true, eqb-false, not-false}
 use Rattle.rules.specs.Table.{Op, Table, nops, op, noOp}
 use Rattle.rules.specs.Verdicts.{Verdict, accepted, refused, SHORT, ORDER, SIZE, RANGE, MANY, CLASH, RACE, Test, refuseIf, _then_, onwards, more, each}
 use Rattle.rules.specs.Rows.{ticks}
 use Rattle.rules.specs.Bytes.{num8, num16, opAt, rowAt, farthest}
-use Rattle.rules.specs.Judge.{needed, header, due, sized, complete, ranged, notMany, fieldTest, repeatTest, fieldsFrom, lenOk, countsOk, setOk, eachSetOk, opOk, clashes, races, pairsTest, judgeWhole, headOf, withOps, opsPlace, headTest, opsFrom, judge, Numbers, opOfNumbers, headOfNumbers, numbersTest, opsOfNumbers, judgeNumbers, rowOk, rowsFrom, judgeReply}
-use Rattle.theory.proofs.Judging.{field-row, repeat-row, fields-end, fields-next, fields-passing, field-passed, range-passed, whole-row, head-row, head-ok, judge-row, numbers-end, numbers-next, numbers-passing, numbers-row, judgeNumbers-row, numbers-ok}
+use Rattle.rules.specs.Judge.{needed, header, due, sized, complete, ranged, notMany, fieldTest, repeatTest, fieldsFrom, lenWrong, countsWrong, setsWrong, opWrong, clashes, races, pairsTest, judgeWhole, headOf, withOps, opsPlace, headTest, opsFrom, judge, Numbers, opOfNumbers, headOfNumbers, numbersTest, opsOfNumbers, judgeNumbers, rowWrong, rowsFrom, judgeReply}
+use Rattle.theory.proofs.Verdicts.{passed}
+use Rattle.theory.proofs.Ranges.{len-within, counts-within, sets-within, op-within, row-within, range-passed}
+use Rattle.theory.proofs.Judging.{field-row, repeat-row, fields-end, fields-next, fields-passing, field-passed, whole-row, head-row, head-ok, judge-row, numbers-end, numbers-next, numbers-passing, numbers-row, judgeNumbers-row, numbers-ok, length-words}
 use Rattle.theory.proofs.Lengths.{modes-few}
 use Rattle.theory.proofs.Replies.{reply-row}
 
@@ -74,9 +77,11 @@ module _ (at : ℕ) (h : at ≤ farthest) where
   unfolding notMany
   many-bounded left = place-bounded (eqb left 0) MANY (omega arith) (omega arith)
 
-  ranged-bounded : (ok : Bool) → Bounded (ranged ok at)
-  unfolding ranged
-  ranged-bounded ok = place-bounded (not ok) RANGE (omega arith) (omega arith)
+-- RANGE has the number's place too
+ranged-bounded : (wrong at : ℕ) → at + wrong ≤ farthest → Bounded (ranged wrong at)
+unfolding ranged
+ranged-bounded wrong at h =
+    bounded-if (not (eqb wrong 0)) RANGE at (at + wrong) (record { low = omega arith; high = omega arith; first = omega arith; second = h })
 
 module _ (s : List ℕ) (at : ℕ) (h : at ≤ farthest) where
   needed-bounded : Bounded (needed s at)
@@ -99,33 +104,39 @@ module _ (s : List ℕ) (at : ℕ) (h : at ≤ farthest) where
   unfolding complete
   complete-bounded size = place-bounded at h (ltb (length s) (at + 3 + size)) SHORT (omega arith) (omega arith)
 
-  module _ (tag size : ℕ) (ok : Bool) where
-    value-bounded : Bounded (sized s at size then complete s at size then ranged ok at)
-    value-bounded = bounded-then _ _ (sized-bounded size) (λ _ _. bounded-then _ _ (complete-bounded size) (λ _ _. ranged-bounded at h ok))
+  module _ (tag size wrong : ℕ) where
+    value-bounded : at + wrong ≤ farthest → Bounded (sized s at size then complete s at size then ranged wrong at)
+    value-bounded g = bounded-then _ _ (sized-bounded size) (λ _ _. bounded-then _ _ (complete-bounded size) (λ _ _. ranged-bounded wrong at g))
 
-    field-bounded : Bounded (fieldTest s at tag size ok)
-    field-bounded =
-        rw (field-row s at tag size ok)
-        (bounded-then _ _ needed-bounded (λ _ _. bounded-then _ _ header-bounded (λ _ _. bounded-then _ _ (due-bounded tag) (λ _ _. value-bounded))))
+    field-bounded : at + wrong ≤ farthest → Bounded (fieldTest s at tag size wrong)
+    field-bounded g =
+        rw (field-row s at tag size wrong)
+        (bounded-then _ _ needed-bounded (λ _ _. bounded-then _ _ header-bounded (λ _ _. bounded-then _ _ (due-bounded tag) (λ _ _. value-bounded g))))
 
-    repeat-bounded : (left : ℕ) → Bounded (repeatTest s at left tag size ok)
-    repeat-bounded left =
-        rw (repeat-row s at tag size ok left)
-        (bounded-then _ _ header-bounded (λ _ _. bounded-then _ _ (due-bounded tag) (λ _ _. bounded-then _ _ (many-bounded at h left) (λ _ _. value-bounded))))
+    repeat-bounded : (left : ℕ) → (0 < left → at + wrong ≤ farthest) → Bounded (repeatTest s at left tag size wrong)
+    unfolding notMany
+    repeat-bounded left g =
+        rw (repeat-row s at tag size wrong left)
+        (bounded-then _ _ header-bounded
+        (λ _ _. bounded-then _ _ (due-bounded tag)
+        (λ _ _. bounded-then _ _ (many-bounded at h left) (λ _ e. value-bounded (g (omega (arith, eqb-false left 0 (passed _ MANY at 0 e))))))))
 
-module _ {A : Type 0} (tag size : ℕ) (ok : A → Bool) (value : List ℕ → ℕ → A) (s : List ℕ) where
+module _ {A : Type 0} (tag size : ℕ) (wrong : A → ℕ) (value : List ℕ → ℕ → A) (s : List ℕ) (within : (x : A) → wrong x ≤ 3 + size) where
   -- one field, and what comes behind it
-  next-bounded : (left at : ℕ) (rest : Verdict (List A)) → at ≤ farthest → Bounded rest
-      → Bounded (cond (leb (length s) at) (accepted []) (repeatTest s at left tag size (ok (value s at)) then rest))
-  next-bounded left at rest h g =
-      bounded-cond (leb (length s) at) (accepted []) (repeatTest s at left tag size (ok (value s at)) then rest) (bounded-accepted [])
-      (bounded-then _ rest (repeat-bounded s at h tag size (ok (value s at)) left) (λ _ _. g))
+  next-bounded : (left at : ℕ) (rest : Verdict (List A)) → at ≤ farthest → (0 < left → at + (3 + size) ≤ farthest) → Bounded rest
+      → Bounded (cond (leb (length s) at) (accepted []) (repeatTest s at left tag size (wrong (value s at)) then rest))
+  next-bounded left at rest h k g =
+      bounded-cond (leb (length s) at) (accepted []) (repeatTest s at left tag size (wrong (value s at)) then rest) (bounded-accepted [])
+      (bounded-then _ rest
+      (repeat-bounded s at h tag size (wrong (value s at)) left (λ m. omega (arith, k m, within (value s at))))
+      (λ _ _. g))
 
-  fields-bounded : (left at : ℕ) → at + left * (3 + size) ≤ farthest → Bounded (fieldsFrom tag size ok value s left at)
-  fields-bounded zero at h = rw (fields-end tag size ok value s at) (next-bounded 0 at (accepted []) (omega arith) (bounded-accepted []))
+  fields-bounded : (left at : ℕ) → at + left * (3 + size) ≤ farthest → Bounded (fieldsFrom tag size wrong value s left at)
+  fields-bounded zero at h =
+      rw (fields-end tag size wrong value s at) (next-bounded 0 at (accepted []) (omega arith) (λ m. absurd (omega arith)) (bounded-accepted []))
   fields-bounded (suc left) at h =
-      rw (fields-next tag size ok value s left at)
-      (next-bounded (suc left) at (more (value s at) (fieldsFrom tag size ok value s left (at + 3 + size))) (omega arith)
+      rw (fields-next tag size wrong value s left at)
+      (next-bounded (suc left) at (more (value s at) (fieldsFrom tag size wrong value s left (at + 3 + size))) (omega arith) (λ m. omega arith)
       (bounded-more (value s at) _ (fields-bounded left (at + 3 + size) (omega arith))))
 
 -- ---- CLASH and RACE: the figures are numbers of operations
@@ -148,14 +159,20 @@ whole-bounded T few =
 -- ---- a table's bytes
 
 module _ (s : List ℕ) where
+  words : length (headOf s .follow) ≡ headOf s .modes
+  unfolding headOf
+  words = length-words s 18 _
+
   head-bounded : Bounded (headTest s)
   head-bounded =
       rw (head-row s)
-      (bounded-then _ _ (field-bounded s 0 (omega arith) 1 2 _)
-      (λ _ _. bounded-then _ _ (field-bounded s 5 (omega arith) 2 3 _)
+      (bounded-then _ _ (field-bounded s 0 (omega arith) 1 2 _ (omega (arith, len-within (headOf s .len))))
+      (λ _ _. bounded-then _ _
+      (field-bounded s 5 (omega arith) 2 3 _ (omega (arith, counts-within (headOf s .boards) (headOf s .cells) (headOf s .modes))))
       (λ _ e.
       let few = modes-few (headOf s) (field-passed s 5 2 3 _ e .1) in
-      bounded-then _ _ (field-bounded s 11 (omega arith) 3 _ _) (λ _ _. needed-bounded s (opsPlace (headOf s .modes)) (omega arith)))))
+      let sets = sets-within (headOf s .modes) (headOf s .first ∷ headOf s .follow) in
+      bounded-then _ _ (field-bounded s 11 (omega arith) 3 _ _ (omega (arith, sets, words))) (λ _ _. needed-bounded s (opsPlace (headOf s .modes)) (omega arith)))))
 
   pub judge-bounded : Bounded (judge s)
   unfolding opsFrom
@@ -164,8 +181,8 @@ module _ (s : List ℕ) where
       (bounded-then _ _ head-bounded
       (λ _ e.
       let few = modes-few (headOf s) (head-ok s e .0 .counts) in
-      bounded-onwards _ _ (fields-bounded 4 18 (opOk (headOf s)) opAt s 32 (opsPlace (headOf s .modes)) (omega arith))
-      (λ os come. whole-bounded (withOps (headOf s) os) (fields-passing 4 18 (opOk (headOf s)) opAt s noOp 32 _ os come .few))))
+      bounded-onwards _ _ (fields-bounded 4 18 (opWrong (headOf s)) opAt s (op-within (headOf s)) 32 (opsPlace (headOf s .modes)) (omega arith))
+      (λ os come. whole-bounded (withOps (headOf s) os) (fields-passing 4 18 (opWrong (headOf s)) opAt s noOp 32 _ os come .few))))
 
 -- ---- a table handed over as numbers
 
@@ -178,19 +195,23 @@ ops-bounded T ns (suc left) at h =
     rw (numbers-next T ns left at)
     (bounded-cond (eqb (length ns) 0) (accepted []) _ (bounded-accepted [])
     (bounded-then _ _ (place-bounded at (omega arith) (ltb (length ns) 6) SHORT (omega arith) (omega arith))
-    (λ _ _. bounded-then _ _ (ranged-bounded at (omega arith) (opOk T (opOfNumbers ns)))
+    (λ _ _. bounded-then _ _ (ranged-bounded (opWrong T (opOfNumbers ns)) at (omega (arith, op-within T (opOfNumbers ns))))
     (λ _ _. bounded-more (opOfNumbers ns) _ (ops-bounded T (drop 6 ns) left (at + 21) (omega arith))))))
 
 module _ (N : Numbers) where
   first-bounded : Bounded (numbersTest N)
   first-bounded =
       rw (numbers-row N)
-      (bounded-then _ _ (ranged-bounded 0 (omega arith) (lenOk (N .len)))
-      (λ _ _. bounded-then _ _ (ranged-bounded 5 (omega arith) (countsOk (N .boards) (N .cells) (N .modes)))
+      (bounded-then _ _ (ranged-bounded (lenWrong (N .len)) 0 (omega (arith, len-within (N .len))))
+      (λ _ _. bounded-then _ _
+      (ranged-bounded (countsWrong (N .boards) (N .cells) (N .modes)) 5 (omega (arith, counts-within (N .boards) (N .cells) (N .modes))))
       (λ _ e.
       let few = modes-few (headOfNumbers N) (range-passed _ 5 e) in
       bounded-then _ _ (place-bounded 11 (omega arith) (not (eqb (length (N .follow)) (N .modes))) SIZE (omega arith) (omega arith))
-      (λ _ _. bounded-then _ _ (ranged-bounded 11 (omega arith) (setOk (N .modes) (N .first) && eachSetOk (N .modes) (N .follow)))
+      (λ _ c.
+      let count : length (N .follow) ≡ N .modes = eqb-true _ _ (not-false _ (passed _ SIZE 11 0 c)) in
+      let sets = sets-within (N .modes) (N .first ∷ N .follow) in
+      bounded-then _ _ (ranged-bounded (setsWrong (N .modes) (N .first ∷ N .follow)) 11 (omega (arith, sets, count)))
       (λ _ _. place-bounded (opsPlace (N .modes)) (omega arith) (eqb (length (N .ops)) 0) ORDER (omega arith) (omega arith))))))
 
   pub numbers-bounded : Bounded (judgeNumbers N)
@@ -208,8 +229,8 @@ pub reply-bounded : (s : List ℕ) → Bounded (judgeReply s)
 unfolding rowsFrom
 reply-bounded s =
     rw (reply-row s)
-    (bounded-then _ _ (bounded-then _ _ (field-bounded s 0 (omega arith) 17 2 _) (λ _ _. needed-bounded s 5 (omega arith)))
-    (λ _ _. bounded-onwards _ _ (fields-bounded 18 4 (rowOk (ticks (num16 s 3))) rowAt s 32 5 (omega arith)) (λ rs _. bounded-accepted _)))
+    (bounded-then _ _ (bounded-then _ _ (field-bounded s 0 (omega arith) 17 2 _ (omega (arith, len-within (num16 s 3)))) (λ _ _. needed-bounded s 5 (omega arith)))
+    (λ _ _. bounded-onwards _ _ (fields-bounded 18 4 (rowWrong (ticks (num16 s 3))) rowAt s (row-within (ticks (num16 s 3))) 32 5 (omega arith)) (λ rs _. bounded-accepted _)))
 
 -- a refusal of a table's bytes
 pub figures-small : (s : List ℕ) (n a b : ℕ) → judge s ≡ refused n a b → Small n a b

@@ -2,7 +2,6 @@
 -- Assumes nothing.
 use Prim.Native.Nat.{ℕ, zero, suc, _+_, _*_, _/_, _%_, _^_, _<_, _≤_}
 use mathlib.Core.Path.{_≡_, refl, _∙_}
-use mathlib.Core.Bool.{Bool, true, not}
 use mathlib.Core.List.{List, [], _∷_, _++_, append-assoc}
 use native.Mathlib.Nat.{div-div-eq-div-mul}
 use native.Mathlib.Omega.{arith}
@@ -14,9 +13,9 @@ use Rattle.rules.specs.Table.{Op, Table, nops}
 use Rattle.rules.specs.Rows.{Reply, replyOf}
 use Rattle.rules.specs.Verdicts.{Verdict, accepted, refused, SIZE, MANY, _then_, more}
 use Rattle.rules.specs.Bytes.{num8, num16, num32, words, be32, joined, opBytes, headBytes, opAt, tableBytes, rowBytes, replyBytes}
-use Rattle.rules.specs.Judge.{notMany, ranged, fieldTest, repeatTest, fieldsFrom, lenOk}
+use Rattle.rules.specs.Judge.{notMany, ranged, fieldTest, repeatTest, fieldsFrom}
 use Rattle.theory.specs.Numbers.{OpFits}
-use Rattle.theory.proofs.Says.{says-leb, says-and}
+use Rattle.theory.proofs.Ranges.{ranged-yes}
 use Rattle.theory.proofs.Verdicts.{passes, then-accepts, more-accepts}
 
 -- ---- numbers in bytes
@@ -104,9 +103,9 @@ reply-size T q = reply-length (replyOf T q) ∙ rw (length-map (T .ops) _)
 
 -- ---- a field that is there
 
-module _ (s : List ℕ) (at tag size : ℕ) (ok : Bool) (t : num8 s at ≡ tag) where
+module _ (s : List ℕ) (at tag size : ℕ) (wrong : ℕ) (t : num8 s at ≡ tag) where
   -- one of another length
-  pub field-size : at + 3 ≤ length s → (num16 s (at + 1) ≡ size → ⊥) → fieldTest s at tag size ok ≡ refused SIZE at 0
+  pub field-size : at + 3 ≤ length s → (num16 s (at + 1) ≡ size → ⊥) → fieldTest s at tag size wrong ≡ refused SIZE at 0
   unfolding fieldTest
   field-size h n =
       simp (
@@ -118,7 +117,7 @@ module _ (s : List ℕ) (at tag size : ℕ) (ok : Bool) (t : num8 s at ≡ tag) 
 
   -- of a whole one the range is left to test
   module _ (h : at + 3 + size ≤ length s) (z : num16 s (at + 1) ≡ size) where
-    pub field-whole : fieldTest s at tag size ok ≡ ranged ok at
+    pub field-whole : fieldTest s at tag size wrong ≡ ranged wrong at
     unfolding fieldTest
     field-whole =
         simp (
@@ -129,7 +128,7 @@ module _ (s : List ℕ) (at tag size : ℕ) (ok : Bool) (t : num8 s at ≡ tag) 
           le-ltb (length s) (at + 3 + size) h,
         )
 
-    repeat-whole : (left : ℕ) → repeatTest s at left tag size ok ≡ (notMany at left then ranged ok at)
+    repeat-whole : (left : ℕ) → repeatTest s at left tag size wrong ≡ (notMany at left then ranged wrong at)
     unfolding repeatTest
     repeat-whole left =
         simp (
@@ -139,16 +138,6 @@ module _ (s : List ℕ) (at tag size : ℕ) (ok : Bool) (t : num8 s at ≡ tag) 
           le-ltb (length s) (at + 3 + size) h,
         )
 
--- a number or set in its range passes
-pub ranged-yes : (ok : Bool) (at : ℕ) → ok ≡ true → ranged ok at ≡ accepted tt
-unfolding ranged
-ranged-yes ok at h = passes (not ok) _ _ _ (rw h)
-
--- the length of a table, or a period
-pub len-ok : (p : ℕ) → 1 ≤ p → p ≤ 1000 → lenOk p ≡ true
-unfolding lenOk
-len-ok p low high = says-and _ _ (says-leb 1 p) (says-leb p 1000) .1 (low, high)
-
 -- one more may come
 spare : (at left : ℕ) → notMany at (suc left) ≡ accepted tt
 unfolding notMany
@@ -157,41 +146,41 @@ spare at left = passes _ _ _ _ (eqb·suc-zero left)
 -- ---- repeated fields
 
 -- the verdict on repeated fields by what is written in them, when `left` more may come and the next is at a place
-unfoldable pub fieldsOf : {A : Type 0} → ℕ → (A → Bool) → List A → ℕ → ℕ → Verdict (List A)
+unfoldable pub fieldsOf : {A : Type 0} → ℕ → (A → ℕ) → List A → ℕ → ℕ → Verdict (List A)
 unfolding ranged more _then_
-fieldsOf size ok [] left at = accepted []
-fieldsOf size ok (x ∷ xs) zero at = refused MANY at 0
-fieldsOf size ok (x ∷ xs) (suc left) at = ranged (ok x) at then more x (fieldsOf size ok xs left (at + 3 + size))
+fieldsOf size wrong [] left at = accepted []
+fieldsOf size wrong (x ∷ xs) zero at = refused MANY at 0
+fieldsOf size wrong (x ∷ xs) (suc left) at = ranged (wrong x) at then more x (fieldsOf size wrong xs left (at + 3 + size))
 
 -- those in their ranges are accepted, if they are not too many
-pub fields-accepted : {A : Type 0} (d : A) (size : ℕ) (ok : A → Bool) (xs : List A) (left at : ℕ) → length xs ≤ left
-    → ((i : ℕ) → i < length xs → ok (getD xs i d) ≡ true) → fieldsOf size ok xs left at ≡ accepted xs
+pub fields-accepted : {A : Type 0} (d : A) (size : ℕ) (wrong : A → ℕ) (xs : List A) (left at : ℕ) → length xs ≤ left
+    → ((i : ℕ) → i < length xs → wrong (getD xs i d) ≡ 0) → fieldsOf size wrong xs left at ≡ accepted xs
 unfolding fieldsOf
-fields-accepted d size ok [] left at few h = refl
-fields-accepted d size ok (x ∷ xs) zero at few h = absurd (omega arith)
-fields-accepted d size ok (x ∷ xs) (suc left) at few h =
-    then-accepts _ (ranged-yes (ok x) at (h 0 (omega arith)))
-    ∙ more-accepts x (fields-accepted d size ok xs left (at + 3 + size) (omega arith) (λ i b. h (suc i) (omega arith)))
+fields-accepted d size wrong [] left at few h = refl
+fields-accepted d size wrong (x ∷ xs) zero at few h = absurd (omega arith)
+fields-accepted d size wrong (x ∷ xs) (suc left) at few h =
+    then-accepts _ (ranged-yes (wrong x) at (h 0 (omega arith)))
+    ∙ more-accepts x (fields-accepted d size wrong xs left (at + 3 + size) (omega arith) (λ i b. h (suc i) (omega arith)))
 
-module _ {A : Type 0} (tag size : ℕ) (ok : A → Bool) (value : List ℕ → ℕ → A) (s : List ℕ) (at : ℕ) where
+module _ {A : Type 0} (tag size : ℕ) (wrong : A → ℕ) (value : List ℕ → ℕ → A) (s : List ℕ) (at : ℕ) where
   -- none at the end of the input
-  pub no-field : (left : ℕ) → length s ≤ at → fieldsFrom tag size ok value s left at ≡ accepted []
+  pub no-field : (left : ℕ) → length s ≤ at → fieldsFrom tag size wrong value s left at ≡ accepted []
   unfolding fieldsFrom
   no-field zero h = rw (le-leb (length s) at h)
   no-field (suc left) h = rw (le-leb (length s) at h)
 
   -- one whole field, where no more may come and where one may
   module _ (t : num8 s at ≡ tag) (h : at + 3 + size ≤ length s) (z : num16 s (at + 1) ≡ size) where
-    pub field-many : fieldsFrom tag size ok value s 0 at ≡ refused MANY at 0
+    pub field-many : fieldsFrom tag size wrong value s 0 at ≡ refused MANY at 0
     unfolding fieldsFrom
-    field-many = simp (lt-leb (length s) at (omega arith), repeat-whole s at tag size (ok (value s at)) t h z 0)
+    field-many = simp (lt-leb (length s) at (omega arith), repeat-whole s at tag size (wrong (value s at)) t h z 0)
 
     pub field-more : (left : ℕ)
-        → fieldsFrom tag size ok value s (suc left) at
-        ≡ (ranged (ok (value s at)) at then more (value s at) (fieldsFrom tag size ok value s left (at + 3 + size)))
+        → fieldsFrom tag size wrong value s (suc left) at
+        ≡ (ranged (wrong (value s at)) at then more (value s at) (fieldsFrom tag size wrong value s left (at + 3 + size)))
     unfolding fieldsFrom
     field-more left =
-        simp (lt-leb (length s) at (omega arith), repeat-whole s at tag size (ok (value s at)) t h z (suc left) ∙ then-accepts _ (spare at left))
+        simp (lt-leb (length s) at (omega arith), repeat-whole s at tag size (wrong (value s at)) t h z (suc left) ∙ then-accepts _ (spare at left))
 
 -- how something is written in a field: with its tag, with its length, and so that it is read back where it fits
 pub record Repeated {A : Type 0} (tag size : ℕ) (value : List ℕ → ℕ → A) (bytes : A → List ℕ) (Fits : A → Type 0) : Type 0 where
@@ -214,20 +203,20 @@ module _ {A : Type 0} {tag size : ℕ} {value : List ℕ → ℕ → A} {bytes :
     first-size = past16 pre (bytes x ++ post) (n + 1) 1 (omega arith) ∙ is .sized x post
 
   -- fields that are written one after the other are judged by what is written in them
-  pub fields-back : (d : A) (ok : A → Bool) (xs : List A) (pre : List ℕ) (left n : ℕ) → n ≡ length pre
+  pub fields-back : (d : A) (wrong : A → ℕ) (xs : List A) (pre : List ℕ) (left n : ℕ) → n ≡ length pre
       → ((i : ℕ) → i < length xs → Fits (getD xs i d))
-      → fieldsFrom tag size ok value (pre ++ joined bytes xs) left n ≡ fieldsOf size ok xs left n
+      → fieldsFrom tag size wrong value (pre ++ joined bytes xs) left n ≡ fieldsOf size wrong xs left n
   unfolding joined fieldsOf
-  fields-back d ok [] pre left n place h = no-field tag size ok value (pre ++ []) n left (omega (arith, length-append pre []))
-  fields-back d ok (x ∷ xs) pre zero n place h =
+  fields-back d wrong [] pre left n place h = no-field tag size wrong value (pre ++ []) n left (omega (arith, length-append pre []))
+  fields-back d wrong (x ∷ xs) pre zero n place h =
       let rest = joined bytes xs in
-      field-many tag size ok value _ n (first-tag x pre rest n place) (first-whole x pre rest n place) (first-size x pre rest n place)
-  fields-back d ok (x ∷ xs) pre (suc left) n place h =
+      field-many tag size wrong value _ n (first-tag x pre rest n place) (first-whole x pre rest n place) (first-size x pre rest n place)
+  fields-back d wrong (x ∷ xs) pre (suc left) n place h =
       let rest = joined bytes xs in
       let first = is .back x (h 0 (omega arith)) pre rest n place in
       let place′ : n + 3 + size ≡ length (pre ++ bytes x) = omega (arith, length-append pre (bytes x), is .width x) in
-      let more = fields-back d ok xs (pre ++ bytes x) left (n + 3 + size) place′ (λ i b. h (suc i) (omega arith)) in
-      field-more tag size ok value _ n (first-tag x pre rest n place) (first-whole x pre rest n place) (first-size x pre rest n place) left
+      let more = fields-back d wrong xs (pre ++ bytes x) left (n + 3 + size) place′ (λ i b. h (suc i) (omega arith)) in
+      field-more tag size wrong value _ n (first-tag x pre rest n place) (first-whole x pre rest n place) (first-size x pre rest n place) left
       ∙ rw (first, ← append-assoc, more)
 
 pub op-repeated : Repeated 4 18 opAt opBytes OpFits

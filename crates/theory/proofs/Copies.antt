@@ -12,7 +12,7 @@ use borrow.Author.Tests.{leb-true, eqb-true, not-false}
 use Rattle.rules.specs.Table.{Op, Table}
 use Rattle.rules.specs.Verdicts.{accepted, ORDER, SIZE}
 use Rattle.rules.specs.Bytes.{num8, num16, num32, words, be16, be32, joined, opAt, opBytes, headBytes, tableBytes}
-use Rattle.rules.specs.Judge.{due, sized, fieldTest, repeatTest, fieldsFrom, opOk, headOf, withOps, opsPlace, headTest, opsFrom, judge}
+use Rattle.rules.specs.Judge.{due, sized, fieldTest, repeatTest, fieldsFrom, opWrong, headOf, withOps, opsPlace, headTest, opsFrom, judge}
 use Rattle.theory.proofs.Says.{clash-bool}
 use Rattle.theory.proofs.Verdicts.{passed, then-first, then-rest, onwards-first, more-first}
 use Rattle.theory.proofs.Judging.{field-row, repeat-row, field-passed, repeat-passed, both, fields-end, fields-next, head-row, head-ok, judge-row, whole-accepted}
@@ -89,22 +89,22 @@ module _ (s : List ℕ) (small : (i : ℕ) → i < length s → getD s i 0 < 256
   unfolding sized
   sized-passed at size e = eqb-true (num16 s (at + 1)) size (not-false _ (passed _ SIZE at 0 e))
 
-  field-header : (at tag size : ℕ) (ok : Bool) → fieldTest s at tag size ok ≡ accepted tt → Header at tag size
-  field-header at tag size ok e =
-      let e2 = then-rest _ _ (then-rest _ _ (sym (field-row s at tag size ok) ∙ e)) in
+  field-header : (at tag size : ℕ) (wrong : ℕ) → fieldTest s at tag size wrong ≡ accepted tt → Header at tag size
+  field-header at tag size wrong e =
+      let e2 = then-rest _ _ (then-rest _ _ (sym (field-row s at tag size wrong) ∙ e)) in
       record {
         tag-is = due-passed at tag (then-first _ _ e2 .1);
         size-is = sized-passed at size (then-first _ _ (then-rest _ _ e2) .1);
-        whole = field-passed s at tag size ok e .0;
+        whole = field-passed s at tag size wrong e .0;
       }
 
-  repeat-header : (at left tag size : ℕ) (ok : Bool) → repeatTest s at left tag size ok ≡ accepted tt → Header at tag size
-  repeat-header at left tag size ok e =
-      let e1 = then-rest _ _ (sym (repeat-row s at tag size ok left) ∙ e) in
+  repeat-header : (at left tag size : ℕ) (wrong : ℕ) → repeatTest s at left tag size wrong ≡ accepted tt → Header at tag size
+  repeat-header at left tag size wrong e =
+      let e1 = then-rest _ _ (sym (repeat-row s at tag size wrong left) ∙ e) in
       record {
         tag-is = due-passed at tag (then-first _ _ e1 .1);
         size-is = sized-passed at size (then-first _ _ (then-rest _ _ (then-rest _ _ e1)) .1);
-        whole = repeat-passed s at tag size ok left e .1;
+        whole = repeat-passed s at tag size wrong left e .1;
       }
 
   -- so its header is written again, and an operation's field is
@@ -129,19 +129,19 @@ module _ (s : List ℕ) (small : (i : ℕ) → i < length s → getD s i 0 < 256
   none-spelt at (o ∷ os) h e = let z : _≡_ {A = ℕ} 0 1 = cc in absurd (omega arith)
 
   -- the operations stand one after the other up to the end
-  ops-spelt : (H : Table) (left at : ℕ) (os : List Op) → fieldsFrom 4 18 (opOk H) opAt s left at ≡ accepted os → at ≤ length s
+  ops-spelt : (H : Table) (left at : ℕ) (os : List Op) → fieldsFrom 4 18 (opWrong H) opAt s left at ≡ accepted os → at ≤ length s
       → Spelt (joined opBytes os) at (length s)
   unfolding joined
   ops-spelt H zero at os e h =
-      both _ (sym (fields-end 4 18 (opOk H) opAt s at) ∙ e)
+      both _ (sym (fields-end 4 18 (opWrong H) opAt s at) ∙ e)
       (λ b x. none-spelt at os (omega (arith, leb-true (length s) at b)) x)
       (λ b x. clash-bool refl (repeat-passed s at 4 18 _ 0 (then-first _ _ x .1) .0))
   ops-spelt H (suc left) at os e h =
-      both _ (sym (fields-next 4 18 (opOk H) opAt s left at) ∙ e)
+      both _ (sym (fields-next 4 18 (opWrong H) opAt s left at) ∙ e)
       (λ b x. none-spelt at os (omega (arith, leb-true (length s) at b)) x)
       (λ b x.
       let here = repeat-header at (suc left) 4 18 _ (then-first _ _ x .1) in
-      let (xs, rest, all) = more-first (opAt s at) (fieldsFrom 4 18 (opOk H) opAt s left (at + 3 + 18)) (then-rest (repeatTest s at (suc left) 4 18 (opOk H (opAt s at))) _ x) in
+      let (xs, rest, all) = more-first (opAt s at) (fieldsFrom 4 18 (opWrong H) opAt s left (at + 3 + 18)) (then-rest (repeatTest s at (suc left) 4 18 (opWrong H (opAt s at))) _ x) in
       rw all (op-spelt at (at + 3 + 18) here refl and-then ops-spelt H left (at + 3 + 18) xs rest (here .whole)))
 
   -- the three fields before the operations pass

@@ -9,18 +9,20 @@ use native.Mathlib.Omega.{arith}
 use lib.Dec.{leb, ltb, eqb}
 use lib.Bits.{bitOr}
 use lib.ListN.{length, getD, drop, length-drop}
-use borrow.Author.Tests.{ltb-false, leb-false, leb-true, eqb-true, eqb-false, not-false}
+use borrow.Author.Tests.{lt-ltb, ltb-false, leb-false, leb-true, eqb-true, eqb-false, not-false}
 use Rattle.rules.specs.Sets.{Share}
 use Rattle.rules.specs.Table.{Op, Table, nops, op, noOp, SetOf, OpOk, Clash, Race, Contest, Accepted}
 use Rattle.rules.specs.Verdicts.{Verdict, accepted, refused, SHORT, ORDER, SIZE, RANGE, MANY, CLASH, RACE, Test, refuseIf, _then_, onwards, more, each}
 use Rattle.rules.specs.Bytes.{words, opAt}
-use Rattle.rules.specs.Judge.{needed, header, due, sized, complete, ranged, notMany, fieldTest, repeatTest, fieldsFrom, lenOk, countsOk, setOk, eachSetOk, opOk, clashes, races, pairsTest, judgeWhole, headOf, withOps, opsPlace, headTest, opsFrom, judge, Numbers, opOfNumbers, headOfNumbers, numbersTest, opsOfNumbers, judgeNumbers}
+use Rattle.rules.specs.Judge.{needed, header, due, sized, complete, ranged, notMany, fieldTest, repeatTest, fieldsFrom, lenRanges, lenWrong, countRanges, countsWrong, setOk, setRanges, setsWrong, opRanges, opWrong, clashes, races, pairsTest, judgeWhole, headOf, withOps, opsPlace, headTest, opsFrom, judge, Numbers, opOfNumbers, headOfNumbers, numbersTest, opsOfNumbers, judgeNumbers}
+use Rattle.rules.specs.Bench.{All}
 use Rattle.theory.specs.Pairs.{FirstPair}
 use Rattle.theory.proofs.Order.{Cmp, cmp}
 use Rattle.theory.proofs.Says.{Says, says-by, says-leb, says-ltb, says-and, says-or, clash-bool}
 use Rattle.theory.proofs.Sets.{in-or, says-shares}
 use Rattle.theory.proofs.Tests.{says-overlaps}
-use Rattle.theory.proofs.Verdicts.{never-refused, passes, passed, then-accepts, then-first, then-rest, onwards-first, more-first, each-accepts, each-accepted}
+use Rattle.theory.proofs.Ranges.{Fine, none-wrong, range-passed}
+use Rattle.theory.proofs.Verdicts.{never-refused, passes, passed, fault-refused, then-accepts, then-first, then-rest, then-refused, onwards-first, more-first, each-accepts, each-accepted}
 
 -- ---- the tests of the judge say the statements of the table
 
@@ -62,20 +64,37 @@ says-set n s =
     (λ x. record { some = x .0; small = x .1 })
     (λ x. (x .some, x .small))
 
--- an operation in its ranges
-pub says-op : (T : Table) (o : Op) → Says (opOk T o) (OpOk T o)
-unfolding opOk
-says-op T o =
-    says-by
-    (says-and _ _ (says-leb _ _)
-    (says-and _ _ (says-leb _ _)
-    (says-and _ _ (says-set (T .boards) (o .boards))
-    (says-and _ _ (says-ltb _ _) (says-and _ _ (says-ltb _ _) (says-set (T .modes) (o .modes)))))))
-    (λ (a, (b, (c, (d, (e, f))))). record { lasts = a; fits = b; boards = c; reads = d; writes = e; modes = f })
-    (λ x. (x .lasts, (x .fits, (x .boards, (x .reads, (x .writes, x .modes))))))
+-- no number of an operation is wrong exactly where it is in its ranges; a start fits its field where the operation ends by p
+pub op-ok : (T : Table) (o : Op) → opWrong T o ≡ 0 → OpOk T o
+unfolding opWrong All
+op-ok T o e =
+    let (_, (d, (b, (r, (w, (m, _)))))) = none-wrong (opRanges T o) .0 e in
+    let (lasts, fits) = says-and _ _ (says-leb 1 (o .dur)) (says-leb (o .start + o .dur) (T .len)) .0 d in
+    record {
+      lasts = lasts;
+      fits = fits;
+      boards = says-set (T .boards) (o .boards) .0 b;
+      reads = says-ltb _ _ .0 r;
+      writes = says-ltb _ _ .0 w;
+      modes = says-set (T .modes) (o .modes) .0 m;
+    }
+
+pub ok-op : (T : Table) (o : Op) → T .len ≤ 1000 → OpOk T o → opWrong T o ≡ 0
+unfolding opWrong All
+ok-op T o short x =
+    none-wrong (opRanges T o) .1 (
+      lt-ltb (o .start) 65536 (omega (arith, x .fits)),
+      (
+        says-and _ _ (says-leb 1 (o .dur)) (says-leb (o .start + o .dur) (T .len)) .1 (x .lasts, x .fits),
+        (
+          says-set (T .boards) (o .boards) .1 (x .boards),
+          (says-ltb _ _ .1 (x .reads), (says-ltb _ _ .1 (x .writes), (says-set (T .modes) (o .modes) .1 (x .modes), tt))),
+        ),
+      ),
+    )
 
 -- one set more in front
-sets-more : (n s : ℕ) (ss : List ℕ)
+pub sets-more : (n s : ℕ) (ss : List ℕ)
     → (SetOf n s × ((a : ℕ) → a < length ss → SetOf n (getD ss a 0)))
     ↔ ((a : ℕ) → a < length (s ∷ ss) → SetOf n (getD (s ∷ ss) a 0))
 sets-more n s ss = (λ x a h. go x a h, λ x. (x 0 (omega arith), λ a h. x (suc a) (omega arith)))
@@ -85,11 +104,21 @@ sets-more n s ss = (λ x a h. go x a h, λ x. (x 0 (omega arith), λ a h. x (suc
     go x (suc a) h = x .1 a (omega arith)
 
 -- each of the sets is such a set
-pub says-each-set : (n : ℕ) (ss : List ℕ) → Says (eachSetOk n ss) ((a : ℕ) → a < length ss → SetOf n (getD ss a 0))
-unfolding eachSetOk
-says-each-set n [] = (λ e a h. absurd (omega arith), λ x. refl)
-says-each-set n (s ∷ ss) =
-    says-by (says-and _ _ (says-set n s) (says-each-set n ss)) (sets-more n s ss .0) (sets-more n s ss .1)
+each-set : (n : ℕ) (ss : List ℕ) → All Fine (setRanges n ss) ↔ ((a : ℕ) → a < length ss → SetOf n (getD ss a 0))
+unfolding All
+each-set n [] = (λ x a h. absurd (omega arith), λ x. tt)
+each-set n (s ∷ ss) =
+    let one = says-set n s in
+    let rest = each-set n ss in
+    (λ x. sets-more n s ss .0 (one .0 (x .0), rest .0 (x .1)), λ x. let (a, b) = sets-more n s ss .1 x in (one .1 a, rest .1 b))
+
+-- none of the sets is wrong exactly where each is
+pub says-sets : (n : ℕ) (ss : List ℕ) → (setsWrong n ss ≡ 0) ↔ ((a : ℕ) → a < length ss → SetOf n (getD ss a 0))
+unfolding setsWrong
+says-sets n ss =
+    let none = none-wrong (setRanges n ss) in
+    let each = each-set n ss in
+    (λ e. each .0 (none .0 e), λ x. none .1 (each .1 x))
 
 -- ---- the first test that refuses
 
@@ -113,35 +142,21 @@ each-refuses f i (suc n) k number a b x = go (cmp i k) (each-refuses f (suc i) n
     go (Cmp.same h) rec = rw (ap f h, x .here)
     go (Cmp.more h) rec = absurd (omega arith)
 
--- what refuses is the first test, or the rest after a first that accepts
-then-refused : (v w : Test) {number a b : ℕ} → (v then w) ≡ refused number a b
-    → (v ≡ refused number a b) ⊎ ((v ≡ accepted tt) × (w ≡ refused number a b))
-unfolding _then_
-then-refused (accepted x) w e = inr (refl, e)
-then-refused (refused n c d) w e = inl e
-
 -- a row that is refused has such a test
 each-refused : (f : ℕ → Test) (i n number a b : ℕ) → each f i n ≡ refused number a b → (k : ℕ) × FirstRefused f i n k number a b
 unfolding each
 each-refused f i zero number a b e = never-refused (sym e)
-each-refused f i (suc n) number a b e = go (then-refused (f i) (each f (suc i) n) e) (each-refused f (suc i) n number a b)
+each-refused f i (suc n) number a b e =
+    then-refused (f i) (each f (suc i) n) e
+    (λ h. (i, record { from = omega arith; to = omega arith; here = h; before = λ l p q. absurd (omega (arith, p, q)) }))
+    (λ _ h r.
+    let (k, x) = each-refused f (suc i) n number a b r in
+    (k, record { from = omega arith; to = omega arith; here = x .here; before = λ l p q. at l p q h x (cmp i l) }))
   where
-    go : (f i ≡ refused number a b) ⊎ ((f i ≡ accepted tt) × (each f (suc i) n ≡ refused number a b))
-        → (each f (suc i) n ≡ refused number a b → (k : ℕ) × FirstRefused f (suc i) n k number a b)
-        → (k : ℕ) × FirstRefused f i (suc n) k number a b
-    go (inl h) rec = (i, record { from = omega arith; to = omega arith; here = h; before = λ l p q. absurd (omega (arith, p, q)) })
-    go (inr (h, r)) rec = let (k, x) = rec r in (k, record { from = omega arith; to = omega arith; here = x .here; before = λ l p q. at l p q h x (cmp i l) })
-      where
-        at : (l : ℕ) {k : ℕ} → i ≤ l → l < k → f i ≡ accepted tt → FirstRefused f (suc i) n k number a b → Cmp i l → f l ≡ accepted tt
-        at l p q h x (Cmp.less z) = x .before l z q
-        at l p q h x (Cmp.same z) = subst (λ (m : ℕ). f m ≡ accepted tt) z h
-        at l p q h x (Cmp.more z) = absurd (omega arith)
-
--- what a single test refuses, it refuses with its own numbers
-fault-refused : (fault : Bool) {n a b m c d : ℕ} → refuseIf fault n a b ≡ refused m c d → (fault ≡ true) × (m ≡ n) × (a ≡ c) × (b ≡ d)
-unfolding refuseIf
-fault-refused true e = (refl, cc, cc, cc)
-fault-refused false e = never-refused (sym e)
+    at : (l : ℕ) {k : ℕ} → i ≤ l → l < k → f i ≡ accepted tt → FirstRefused f (suc i) n k number a b → Cmp i l → f l ≡ accepted tt
+    at l p q h x (Cmp.less z) = x .before l z q
+    at l p q h x (Cmp.same z) = subst (λ (m : ℕ). f m ≡ accepted tt) z h
+    at l p q h x (Cmp.more z) = absurd (omega arith)
 
 -- ---- pairs
 
@@ -171,7 +186,7 @@ module _ (hit : Op → Op → Bool) (number : ℕ) (T : Table) where
   )
 
   -- what the tests of all pairs refuse is the first pair that is hit, with their own number
-  pairs-refused : (m i j : ℕ) → pairsTest hit number T ≡ refused m i j → (m ≡ number) × FirstPair hit T i j
+  pub pairs-refused : (m i j : ℕ) → pairsTest hit number T ≡ refused m i j → (m ≡ number) × FirstPair hit T i j
   unfolding pairsTest
   pairs-refused m i j e =
       let (k, x) = each-refused row 0 (nops T) m i j e in
@@ -245,34 +260,29 @@ whole-accepted T U e =
 
 -- ---- one field
 
--- a number or set that passes is in its range
-pub range-passed : (ok : Bool) (at : ℕ) → ranged ok at ≡ accepted tt → ok ≡ true
-unfolding ranged
-range-passed ok at e = not-false ok (passed (not ok) RANGE at 0 e)
-
-module _ (s : List ℕ) (at tag size : ℕ) (ok : Bool) where
+module _ (s : List ℕ) (at tag size : ℕ) (wrong : ℕ) where
   -- the rows of tests that the two kinds of field are
-  pub field-row : fieldTest s at tag size ok ≡ (needed s at then header s at then due s at tag then sized s at size then complete s at size then ranged ok at)
+  pub field-row : fieldTest s at tag size wrong ≡ (needed s at then header s at then due s at tag then sized s at size then complete s at size then ranged wrong at)
   unfolding fieldTest
   field-row = refl
 
   pub repeat-row : (left : ℕ)
-      → repeatTest s at left tag size ok
-      ≡ (header s at then due s at tag then notMany at left then sized s at size then complete s at size then ranged ok at)
+      → repeatTest s at left tag size wrong
+      ≡ (header s at then due s at tag then notMany at left then sized s at size then complete s at size then ranged wrong at)
   unfolding repeatTest
   repeat-row left = refl
 
   -- a value that passes is complete and in its range
-  value-passed : (complete s at size then ranged ok at) ≡ accepted tt → (at + 3 + size ≤ length s) × (ok ≡ true)
+  value-passed : (complete s at size then ranged wrong at) ≡ accepted tt → (at + 3 + size ≤ length s) × (wrong ≡ 0)
   unfolding complete
-  value-passed e = (ltb-false _ _ (passed _ SHORT at 0 (then-first _ _ e .1)), range-passed ok at (then-rest _ _ e))
+  value-passed e = (ltb-false _ _ (passed _ SHORT at 0 (then-first _ _ e .1)), range-passed wrong at (then-rest _ _ e))
 
   -- likewise a whole field
-  pub field-passed : fieldTest s at tag size ok ≡ accepted tt → (at + 3 + size ≤ length s) × (ok ≡ true)
+  pub field-passed : fieldTest s at tag size wrong ≡ accepted tt → (at + 3 + size ≤ length s) × (wrong ≡ 0)
   field-passed e = value-passed (then-rest _ _ (then-rest _ _ (then-rest _ _ (then-rest _ _ (sym field-row ∙ e)))))
 
   -- and a repeated field that passes was allowed to come
-  pub repeat-passed : (left : ℕ) → repeatTest s at left tag size ok ≡ accepted tt → (eqb left 0 ≡ false) × (at + 3 + size ≤ length s) × (ok ≡ true)
+  pub repeat-passed : (left : ℕ) → repeatTest s at left tag size wrong ≡ accepted tt → (eqb left 0 ≡ false) × (at + 3 + size ≤ length s) × (wrong ≡ 0)
   unfolding notMany
   repeat-passed left e =
       let from = then-rest _ _ (then-rest _ _ (sym (repeat-row left) ∙ e)) in
@@ -282,38 +292,38 @@ module _ (s : List ℕ) (at tag size : ℕ) (ok : Bool) where
 -- ---- what comes repeatedly, each in `unit` places
 
 -- at most `left` of them, they fill `room` places, and each passes
-pub record Passing {A : Type 0} (ok : A → Bool) (none : A) (unit left room : ℕ) (xs : List A) : Type 0 where
+pub record Passing {A : Type 0} (wrong : A → ℕ) (none : A) (unit left room : ℕ) (xs : List A) : Type 0 where
   pub few : length xs ≤ left
   pub filled : room ≡ length xs * unit
-  pub each : (i : ℕ) → i < length xs → ok (getD xs i none) ≡ true
+  pub each : (i : ℕ) → i < length xs → wrong (getD xs i none) ≡ 0
 
 -- a fact that follows on both sides of a test
 pub both : {A X : Type 0} (b : Bool) {u v w : A} → cond b u v ≡ w → (b ≡ true → u ≡ w → X) → (b ≡ false → v ≡ w → X) → X
 both true e f g = f refl e
 both false e f g = g refl e
 
-module _ {A : Type 0} (ok : A → Bool) (none : A) (unit : ℕ) where
+module _ {A : Type 0} (wrong : A → ℕ) (none : A) (unit : ℕ) where
   -- nothing comes where there is no room
-  passing-none : {left room : ℕ} {xs : List A} → room ≡ 0 → accepted [] ≡ accepted xs → Passing ok none unit left room xs
+  passing-none : {left room : ℕ} {xs : List A} → room ≡ 0 → accepted [] ≡ accepted xs → Passing wrong none unit left room xs
   passing-none {xs = []} r e = record { few = omega arith; filled = omega arith; each = λ i h. absurd (omega (arith, h)) }
   passing-none {xs = x ∷ xs} r e = let z : _≡_ {A = ℕ} 0 1 = cc in absurd (omega arith)
 
   -- one more in front, which passes
-  passing-more : {left room rest : ℕ} {x : A} (v : Verdict (List A)) {ys : List A} → ok x ≡ true → room ≡ unit + rest → more x v ≡ accepted ys
-      → ((xs : List A) → v ≡ accepted xs → Passing ok none unit left rest xs)
-      → Passing ok none unit (suc left) room ys
+  passing-more : {left room rest : ℕ} {x : A} (v : Verdict (List A)) {ys : List A} → wrong x ≡ 0 → room ≡ unit + rest → more x v ≡ accepted ys
+      → ((xs : List A) → v ≡ accepted xs → Passing wrong none unit left rest xs)
+      → Passing wrong none unit (suc left) room ys
   passing-more {left} {room} {rest} {x} v fine r e f =
-      let (xs, y, whole) = more-first x v e in subst (λ (zs : List A). Passing ok none unit (suc left) room zs) (sym whole) (go xs (f xs y))
+      let (xs, y, whole) = more-first x v e in subst (λ (zs : List A). Passing wrong none unit (suc left) room zs) (sym whole) (go xs (f xs y))
     where
-      go : (xs : List A) → Passing ok none unit left rest xs → Passing ok none unit (suc left) room (x ∷ xs)
+      go : (xs : List A) → Passing wrong none unit left rest xs → Passing wrong none unit (suc left) room (x ∷ xs)
       go xs p = record { few = omega arith; filled = omega (arith, r, p .filled); each = at }
         where
-          at : (i : ℕ) → i < length (x ∷ xs) → ok (getD (x ∷ xs) i none) ≡ true
+          at : (i : ℕ) → i < length (x ∷ xs) → wrong (getD (x ∷ xs) i none) ≡ 0
           at zero h = fine
           at (suc i) h = p .each i (omega arith)
 
   -- where there is room to fill, there is one at least
-  passing-some : {left room : ℕ} (xs : List A) → 0 < room → Passing ok none unit left room xs → 0 < length xs
+  passing-some : {left room : ℕ} (xs : List A) → 0 < room → Passing wrong none unit left room xs → 0 < length xs
   passing-some [] h p = omega arith
   passing-some (x ∷ xs) h p = omega arith
 
@@ -330,37 +340,37 @@ module _ {A : Type 0} (none : A) (f : ℕ → A) (unit at : ℕ) where
   placed-more next e xs rest zero h = ap f (omega arith)
   placed-more next e xs rest (suc i) h = rest i (omega (arith, h)) ∙ ap f (omega arith)
 
-module _ {A : Type 0} (tag size : ℕ) (ok : A → Bool) (value : List ℕ → ℕ → A) (s : List ℕ) where
+module _ {A : Type 0} (tag size : ℕ) (wrong : A → ℕ) (value : List ℕ → ℕ → A) (s : List ℕ) where
   -- the tests at one place, where no more may come and where one may
   pub fields-end : (at : ℕ)
-      → fieldsFrom tag size ok value s zero at
-      ≡ cond (leb (length s) at) (accepted []) (repeatTest s at 0 tag size (ok (value s at)) then accepted [])
+      → fieldsFrom tag size wrong value s zero at
+      ≡ cond (leb (length s) at) (accepted []) (repeatTest s at 0 tag size (wrong (value s at)) then accepted [])
   unfolding fieldsFrom
   fields-end at = refl
 
   pub fields-next : (left at : ℕ)
-      → fieldsFrom tag size ok value s (suc left) at
+      → fieldsFrom tag size wrong value s (suc left) at
       ≡ cond (leb (length s) at) (accepted [])
-      (repeatTest s at (suc left) tag size (ok (value s at)) then more (value s at) (fieldsFrom tag size ok value s left (at + 3 + size)))
+      (repeatTest s at (suc left) tag size (wrong (value s at)) then more (value s at) (fieldsFrom tag size wrong value s left (at + 3 + size)))
   unfolding fieldsFrom
   fields-next left at = refl
 
   -- repeated fields that are accepted fill the rest of the input
-  pub fields-passing : (none : A) (left at : ℕ) (xs : List A) → fieldsFrom tag size ok value s left at ≡ accepted xs
-      → Passing ok none (3 + size) left (length s - at) xs
+  pub fields-passing : (none : A) (left at : ℕ) (xs : List A) → fieldsFrom tag size wrong value s left at ≡ accepted xs
+      → Passing wrong none (3 + size) left (length s - at) xs
   fields-passing none zero at xs e =
       both _ (sym (fields-end at) ∙ e)
-      (λ b x. passing-none ok none (3 + size) (omega (arith, leb-true (length s) at b)) x)
+      (λ b x. passing-none wrong none (3 + size) (omega (arith, leb-true (length s) at b)) x)
       (λ b x. clash-bool refl (repeat-passed s at tag size _ 0 (then-first _ _ x .1) .0))
   fields-passing none (suc left) at xs e =
       both _ (sym (fields-next left at) ∙ e)
-      (λ b x. passing-none ok none (3 + size) (omega (arith, leb-true (length s) at b)) x)
+      (λ b x. passing-none wrong none (3 + size) (omega (arith, leb-true (length s) at b)) x)
       (λ b x.
       let (_, full, fine) = repeat-passed s at tag size _ (suc left) (then-first _ _ x .1) in
-      passing-more ok none (3 + size) _ fine (omega arith) (then-rest _ _ x) (fields-passing none left (at + 3 + size)))
+      passing-more wrong none (3 + size) _ fine (omega arith) (then-rest _ _ x) (fields-passing none left (at + 3 + size)))
 
   -- and each has its value from its own place
-  pub fields-values : (none : A) (left at : ℕ) (xs : List A) → fieldsFrom tag size ok value s left at ≡ accepted xs → Placed none (value s) (3 + size) at xs
+  pub fields-values : (none : A) (left at : ℕ) (xs : List A) → fieldsFrom tag size wrong value s left at ≡ accepted xs → Placed none (value s) (3 + size) at xs
   fields-values none zero at xs e =
       both (leb (length s) at) (sym (fields-end at) ∙ e)
       (λ b x. placed-none none (value s) (3 + size) at x)
@@ -376,35 +386,45 @@ module _ {A : Type 0} (tag size : ℕ) (ok : A → Bool) (value : List ℕ → �
 -- ---- the whole table
 
 -- the length and the counts in their ranges
-pub says-len : (p : ℕ) → Says (lenOk p) ((1 ≤ p) × (p ≤ 1000))
-unfolding lenOk
-says-len p = says-and _ _ (says-leb 1 p) (says-leb p 1000)
+pub says-len : (p : ℕ) → (lenWrong p ≡ 0) ↔ ((1 ≤ p) × (p ≤ 1000))
+unfolding lenWrong All
+says-len p =
+    let none = none-wrong (lenRanges p) in
+    let both = says-and _ _ (says-leb 1 p) (says-leb p 1000) in
+    (λ e. both .0 (none .0 e .0), λ x. none .1 (both .1 x, tt))
 
 pub says-counts : (boards cells modes : ℕ)
-    → Says (countsOk boards cells modes) ((1 ≤ boards) × ((boards ≤ 16) × ((cells ≤ 32) × ((1 ≤ modes) × (modes ≤ 32)))))
-unfolding countsOk
+    → (countsWrong boards cells modes ≡ 0) ↔ ((1 ≤ boards) × ((boards ≤ 16) × ((cells ≤ 32) × ((1 ≤ modes) × (modes ≤ 32)))))
+unfolding countsWrong All
 says-counts boards cells modes =
-    says-and _ _ (says-leb _ _)
-    (says-and _ _ (says-leb _ _) (says-and _ _ (says-leb _ _) (says-and _ _ (says-leb _ _) (says-leb _ _))))
+    let none = none-wrong (countRanges boards cells modes) in
+    let few = says-and _ _ (says-leb 1 boards) (says-leb boards 16) in
+    let some = says-and _ _ (says-leb 1 modes) (says-leb modes 32) in (
+      λ e.
+          let (b, (c, (m, _))) = none .0 e in
+          let (low, high) = few .0 b in
+          (low, (high, (says-leb cells 32 .0 c, some .0 m))),
+      λ x. let (low, (high, (c, m))) = x in none .1 (few .1 (low, high), (says-leb cells 32 .1 c, (some .1 m, tt))),
+    )
 
 -- what stands before the operations is in its ranges
 pub record HeadOk (H : Table) : Type 0 where
-  pub len : lenOk (H .len) ≡ true
-  pub counts : countsOk (H .boards) (H .cells) (H .modes) ≡ true
+  pub len : lenWrong (H .len) ≡ 0
+  pub counts : countsWrong (H .boards) (H .cells) (H .modes) ≡ 0
   pub words : length (H .follow) ≡ H .modes
-  pub sets : (setOk (H .modes) (H .first) && eachSetOk (H .modes) (H .follow)) ≡ true
+  pub sets : setsWrong (H .modes) (H .first ∷ H .follow) ≡ 0
 
 -- such a head with operations that pass is accepted where the judgement of its pairs accepts
-whole-ok : (H : Table) (os : List Op) (unit room : ℕ) (T : Table) → HeadOk H → 0 < room → Passing (opOk H) noOp unit 32 room os
+whole-ok : (H : Table) (os : List Op) (unit room : ℕ) (T : Table) → HeadOk H → 0 < room → Passing (opWrong H) noOp unit 32 room os
     → judgeWhole (withOps H os) ≡ accepted T → Accepted T
-unfolding opOk
+unfolding opWrong
 whole-ok H os unit room T head some ops e =
     let (same, no-clash, no-race) = whole-accepted (withOps H os) T e in
     let (len-low, len-high) = says-len (H .len) .0 (head .len) in
     let (boards-low, (boards-high, (cells-high, (modes-low, modes-high)))) =
     says-counts (H .boards) (H .cells) (H .modes) .0 (head .counts)
     in
-    let (firsts, follows) = says-and _ _ (says-set (H .modes) (H .first)) (says-each-set (H .modes) (H .follow)) .0 (head .sets) in
+    let sets = says-sets (H .modes) (H .first ∷ H .follow) .0 (head .sets) in
     subst (λ (U : Table). Accepted U) same
     (record {
       len-low = len-low;
@@ -414,12 +434,12 @@ whole-ok H os unit room T head some ops e =
       cells-high = cells-high;
       modes-low = modes-low;
       modes-high = modes-high;
-      ops-low = passing-some (opOk H) noOp unit os some ops;
+      ops-low = passing-some (opWrong H) noOp unit os some ops;
       ops-high = ops .few;
-      firsts = firsts;
+      firsts = sets 0 (omega arith);
       words = head .words;
-      follows = λ a h. follows a (omega (arith, head .words));
-      each = λ i h. says-op (withOps H os) (getD os i noOp) .0 (ops .each i h);
+      follows = λ a h. sets (suc a) (omega (arith, head .words));
+      each = λ i h. op-ok (withOps H os) (getD os i noOp) (ops .each i h);
       no-clash = no-clash;
       no-race = no-race;
     })
@@ -435,10 +455,10 @@ length-words s at (suc n) = ap suc (length-words s (at + 4) n)
 module _ (s : List ℕ) where
   -- the rows of tests that the judgement of the head and the whole judgement are
   pub head-row : headTest s
-      ≡ (fieldTest s 0 1 2 (lenOk (headOf s .len))
-      then fieldTest s 5 2 3 (countsOk (headOf s .boards) (headOf s .cells) (headOf s .modes))
+      ≡ (fieldTest s 0 1 2 (lenWrong (headOf s .len))
+      then fieldTest s 5 2 3 (countsWrong (headOf s .boards) (headOf s .cells) (headOf s .modes))
       then fieldTest s 11 3 (4 + 4 * headOf s .modes)
-      (setOk (headOf s .modes) (headOf s .first) && eachSetOk (headOf s .modes) (headOf s .follow))
+      (setsWrong (headOf s .modes) (headOf s .first ∷ headOf s .follow))
       then needed s (opsPlace (headOf s .modes)))
   unfolding headTest
   head-row = refl
@@ -466,16 +486,16 @@ module _ (s : List ℕ) where
       )
 
   -- operations that are accepted fill the rest of the input
-  ops-passing : (at : ℕ) (os : List Op) → opsFrom (headOf s) s 32 at ≡ accepted os → Passing (opOk (headOf s)) noOp 21 32 (length s - at) os
+  ops-passing : (at : ℕ) (os : List Op) → opsFrom (headOf s) s 32 at ≡ accepted os → Passing (opWrong (headOf s)) noOp 21 32 (length s - at) os
   unfolding opsFrom
-  ops-passing = fields-passing 4 18 (opOk (headOf s)) opAt s noOp 32
+  ops-passing = fields-passing 4 18 (opWrong (headOf s)) opAt s noOp 32
 
 -- what the bytes of an accepted table consist of
 pub record Parts (s : List ℕ) (T : Table) : Type 0 where
   pub head : HeadOk (headOf s)
   pub place : opsPlace (headOf s .modes) < length s
   pub ops : List Op
-  pub passing : Passing (opOk (headOf s)) noOp 21 32 (length s - opsPlace (headOf s .modes)) ops
+  pub passing : Passing (opWrong (headOf s)) noOp 21 32 (length s - opsPlace (headOf s .modes)) ops
   pub whole : judgeWhole (withOps (headOf s) ops) ≡ accepted T
 
 -- what the judge accepts has such parts
@@ -503,34 +523,34 @@ module _ (T : Table) where
       → opsOfNumbers T ns (suc left) at
       ≡ cond (eqb (length ns) 0) (accepted [])
       (refuseIf (ltb (length ns) 6) SHORT at 0
-      then ranged (opOk T (opOfNumbers ns)) at
+      then ranged (opWrong T (opOfNumbers ns)) at
       then more (opOfNumbers ns) (opsOfNumbers T (drop 6 ns) left (at + 21)))
   unfolding opsOfNumbers
   numbers-next ns left at = refl
 
   -- numbers of operations that are accepted are six for each
-  pub numbers-passing : (ns : List ℕ) (left at : ℕ) (os : List Op) → opsOfNumbers T ns left at ≡ accepted os → Passing (opOk T) noOp 6 left (length ns) os
+  pub numbers-passing : (ns : List ℕ) (left at : ℕ) (os : List Op) → opsOfNumbers T ns left at ≡ accepted os → Passing (opWrong T) noOp 6 left (length ns) os
   unfolding notMany
   numbers-passing ns zero at os e =
       both _ (sym (numbers-end ns at) ∙ e)
-      (λ b x. passing-none (opOk T) noOp 6 (eqb-true (length ns) 0 b) x)
+      (λ b x. passing-none (opWrong T) noOp 6 (eqb-true (length ns) 0 b) x)
       (λ b x. clash-bool refl (passed _ MANY at 0 (then-first _ _ x .1)))
   numbers-passing ns (suc left) at os e =
       both _ (sym (numbers-next ns left at) ∙ e)
-      (λ b x. passing-none (opOk T) noOp 6 (eqb-true (length ns) 0 b) x)
+      (λ b x. passing-none (opWrong T) noOp 6 (eqb-true (length ns) 0 b) x)
       (λ b x.
       let full = ltb-false (length ns) 6 (passed _ SHORT at 0 (then-first _ _ x .1)) in
       let from = then-rest _ _ x in
-      passing-more (opOk T) noOp 6 _ (range-passed _ at (then-first _ _ from .1)) (omega (arith, length-drop 6 ns)) (then-rest _ _ from)
+      passing-more (opWrong T) noOp 6 _ (range-passed _ at (then-first _ _ from .1)) (omega (arith, length-drop 6 ns)) (then-rest _ _ from)
       (numbers-passing (drop 6 ns) left (at + 21)))
 
 module _ (N : Numbers) where
   -- the rows of tests that the judgement of the head and the whole judgement are
   pub numbers-row : numbersTest N
-      ≡ (ranged (lenOk (N .len)) 0
-      then ranged (countsOk (N .boards) (N .cells) (N .modes)) 5
+      ≡ (ranged (lenWrong (N .len)) 0
+      then ranged (countsWrong (N .boards) (N .cells) (N .modes)) 5
       then refuseIf (not (eqb (length (N .follow)) (N .modes))) SIZE 11 0
-      then ranged (setOk (N .modes) (N .first) && eachSetOk (N .modes) (N .follow)) 11
+      then ranged (setsWrong (N .modes) (N .first ∷ N .follow)) 11
       then refuseIf (eqb (length (N .ops)) 0) ORDER (opsPlace (N .modes)) 0)
   unfolding numbersTest
   numbers-row = refl

@@ -14,7 +14,7 @@ use Rattle.rules.specs.Table.{Op, Table, noOp, nops, op, endOf, SetOf, Accepted
 use Rattle.rules.specs.Rows.{Row, ticks}
 use Rattle.rules.specs.Verdicts.{Verdict, accepted, refused, MANY, CLASH, _then_, onwards}
 use Rattle.rules.specs.Bytes.{num8, num16, num32, words, opAt, rowAt, tableBytes, longestTable, farthest}
-use Rattle.rules.specs.Judge.{needed, header, due, notMany, sized, complete, fieldTest, repeatTest, fieldsFrom, lenOk, countsOk, setOk, eachSetOk, opOk, clashes, headTest, headOf, opsFrom, opsPlace, judge, rowOk, rowsFrom, judgeReply}
+use Rattle.rules.specs.Judge.{needed, header, due, notMany, sized, complete, fieldTest, repeatTest, fieldsFrom, lenWrong, countsWrong, setsWrong, opWrong, clashes, headTest, headOf, opsFrom, opsPlace, judge, rowWrong, rowsFrom, judgeReply}
 use Rattle.rules.specs.Bench.{opn, oneMode}
 use Rattle.theory.proofs.Says.{says-same, says-leb, says-ltb}
 use Rattle.theory.proofs.Verdicts.{passed, then-refuses, then-same}
@@ -125,11 +125,11 @@ abbrev k1-times : Table
 k1-times = oneMode 5 1 0 (replicate 32 (opn 1 3 1 0 0 1))
 
 times-head : HeadOk k1-times
-unfolding lenOk countsOk setOk eachSetOk
+unfolding lenWrong countsWrong setsWrong
 times-head = record { len = refl; counts = refl; words = refl; sets = refl }
 
-times-op : (i : ℕ) → i < 32 → opOk k1-times (op k1-times i) ≡ true
-unfolding opOk
+times-op : (i : ℕ) → i < 32 → opWrong k1-times (op k1-times i) ≡ 0
+unfolding opWrong
 times-op i h = rw (getD-replicate 32 i (opn 1 3 1 0 0 1) noOp h)
 
 pub clash-of-32 : judge (tableBytes k1-times) ≡ refused 6 0 1
@@ -150,7 +150,7 @@ clash-of-32 =
 -- ---- an input and its first n bytes
 
 -- counts in their ranges: 32 modes at most
-pub modes-few : (H : Table) → countsOk (H .boards) (H .cells) (H .modes) ≡ true → H .modes ≤ 32
+pub modes-few : (H : Table) → countsWrong (H .boards) (H .cells) (H .modes) ≡ 0 → H .modes ≤ 32
 modes-few H e = says-counts (H .boards) (H .cells) (H .modes) .0 e .1 .1 .1 .1
 
 module _ (n : ℕ) (s : List ℕ) where
@@ -215,11 +215,11 @@ module _ (n : ℕ) (s : List ℕ) where
   complete-near at size h = rw (short-near (at + 3 + size) h)
 
   -- a field that is there once, with its value
-  field-near : (at tag size : ℕ) {fine ok : Bool} → at + 3 + size ≤ n → fine ≡ ok → fieldTest (take n s) at tag size fine ≡ fieldTest s at tag size ok
-  field-near at tag size {fine} {ok} h e =
+  field-near : (at tag size : ℕ) {fine wrong : ℕ} → at + 3 + size ≤ n → fine ≡ wrong → fieldTest (take n s) at tag size fine ≡ fieldTest s at tag size wrong
+  field-near at tag size {fine} {wrong} h e =
       cc (
         field-row (take n s) at tag size fine,
-        field-row s at tag size ok,
+        field-row s at tag size wrong,
         needed-near at (omega arith),
         header-near at (omega arith),
         due-near at tag (omega arith),
@@ -228,45 +228,45 @@ module _ (n : ℕ) (s : List ℕ) where
       )
 
   -- of a repeated field that may not come, the header alone is looked at
-  repeat-near : (at left tag size : ℕ) {fine ok : Bool} → at + 3 ≤ n → (0 < left → (at + 3 + size ≤ n) × (fine ≡ ok))
-      → repeatTest (take n s) at left tag size fine ≡ repeatTest s at left tag size ok
+  repeat-near : (at left tag size : ℕ) {fine wrong : ℕ} → at + 3 ≤ n → (0 < left → (at + 3 + size ≤ n) × (fine ≡ wrong))
+      → repeatTest (take n s) at left tag size fine ≡ repeatTest s at left tag size wrong
   unfolding notMany
-  repeat-near at left tag size {fine} {ok} h may =
+  repeat-near at left tag size {fine} {wrong} h may =
       repeat-row (take n s) at tag size fine left
       ∙ then-same (header-near at h)
       (λ _ _. then-same (due-near at tag h)
       (λ _ _. then-same refl
       (λ _ e. let (full, same) = may (rest e) in cc (sized-near at size h, complete-near at size full, same))))
-      ∙ sym (repeat-row s at tag size ok left)
+      ∙ sym (repeat-row s at tag size wrong left)
     where
       rest : {x : Unit {0}} → notMany at left ≡ accepted x → 0 < left
       rest e = omega (arith, eqb-false left 0 (passed _ MANY at 0 e))
 
   -- repeated fields, where there is room for all that may come and for one header more
-  module _ {A : Type 0} (tag size : ℕ) (ok : A → Bool) (value : List ℕ → ℕ → A)
+  module _ {A : Type 0} (tag size : ℕ) (wrong : A → ℕ) (value : List ℕ → ℕ → A)
       (same : (at : ℕ) → at + 3 + size ≤ n → value (take n s) at ≡ value s at) where
-    fields-near : (left at : ℕ) → at + left * (3 + size) + 3 ≤ n → fieldsFrom tag size ok value (take n s) left at ≡ fieldsFrom tag size ok value s left at
+    fields-near : (left at : ℕ) → at + left * (3 + size) + 3 ≤ n → fieldsFrom tag size wrong value (take n s) left at ≡ fieldsFrom tag size wrong value s left at
     fields-near zero at h =
         cc (
-          fields-end tag size ok value (take n s) at,
-          fields-end tag size ok value s at,
+          fields-end tag size wrong value (take n s) at,
+          fields-end tag size wrong value s at,
           ends-near at (omega arith),
-          repeat-near at 0 tag size {fine = ok (value (take n s) at)} {ok = ok (value s at)} (omega arith) (λ h. absurd (omega arith)),
+          repeat-near at 0 tag size {fine = wrong (value (take n s) at)} {wrong = wrong (value s at)} (omega arith) (λ h. absurd (omega arith)),
         )
     fields-near (suc left) at h =
         let alike : value (take n s) at ≡ value s at = same at (omega arith) in
         cc (
-          fields-next tag size ok value (take n s) left at,
-          fields-next tag size ok value s left at,
+          fields-next tag size wrong value (take n s) left at,
+          fields-next tag size wrong value s left at,
           ends-near at (omega arith),
-          repeat-near at (suc left) tag size (omega arith) (λ _. (omega arith, ap ok alike)),
+          repeat-near at (suc left) tag size (omega arith) (λ _. (omega arith, ap wrong alike)),
           fields-near left (at + 3 + size) (omega arith),
         )
 
   -- the operations' fields: 32 of 21 bytes, and one header more
   ops-near : (H : Table) (at : ℕ) → at + 675 ≤ n → opsFrom H (take n s) 32 at ≡ opsFrom H s 32 at
   unfolding opsFrom
-  ops-near H at h = fields-near 4 18 (opOk H) opAt (λ i k. op-near i (omega arith)) 32 at (omega arith)
+  ops-near H at h = fields-near 4 18 (opWrong H) opAt (λ i k. op-near i (omega arith)) 32 at (omega arith)
 
   -- ---- a reply: its period, 32 rows of 7 bytes, and one header more
   row-near : (at : ℕ) → at + 7 ≤ n → rowAt (take n s) at ≡ rowAt s at
@@ -276,25 +276,25 @@ module _ (n : ℕ) (s : List ℕ) where
   unfolding rowsFrom
   reply-front enough =
       let period : num16 (take n s) 3 ≡ num16 s 3 = num16-near 3 (omega arith) in
-      let front : (fieldTest (take n s) 0 17 2 (lenOk (num16 (take n s) 3)) then needed (take n s) 5) ≡ (fieldTest s 0 17 2 (lenOk (num16 s 3)) then needed s 5) =
-      cc (field-near 0 17 2 (omega arith) (ap lenOk period), needed-near 5 (omega arith))
+      let front : (fieldTest (take n s) 0 17 2 (lenWrong (num16 (take n s) 3)) then needed (take n s) 5) ≡ (fieldTest s 0 17 2 (lenWrong (num16 s 3)) then needed s 5) =
+      cc (field-near 0 17 2 (omega arith) (ap lenWrong period), needed-near 5 (omega arith))
       in
       reply-row (take n s)
       ∙ then-same front
       (λ _ _.
       rw period
       (ap (λ (v : Verdict (List Row)). onwards v (λ rs. accepted (record { period = ticks (num16 s 3); rows = rs })))
-      (fields-near 18 4 (rowOk (ticks (num16 s 3))) rowAt (λ i k. row-near i (omega arith)) 32 5 (omega arith))))
+      (fields-near 18 4 (rowWrong (ticks (num16 s 3))) rowAt (λ i k. row-near i (omega arith)) 32 5 (omega arith))))
       ∙ sym (reply-row s)
 
   -- ---- the whole input
   module _ (enough : farthest ≤ n) where
     -- the ranges of the first two fields
-    len-near : lenOk (headOf (take n s) .len) ≡ lenOk (headOf s .len)
+    len-near : lenWrong (headOf (take n s) .len) ≡ lenWrong (headOf s .len)
     unfolding headOf
     len-near = cc (num16-near 3 (omega arith))
 
-    counts-near : countsOk (headOf (take n s) .boards) (headOf (take n s) .cells) (headOf (take n s) .modes) ≡ countsOk (headOf s .boards) (headOf s .cells) (headOf s .modes)
+    counts-near : countsWrong (headOf (take n s) .boards) (headOf (take n s) .cells) (headOf (take n s) .modes) ≡ countsWrong (headOf s .boards) (headOf s .cells) (headOf s .modes)
     unfolding headOf
     counts-near = cc (num8-near 8 (omega arith), num8-near 9 (omega arith), num8-near 10 (omega arith))
 

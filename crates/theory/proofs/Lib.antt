@@ -11,12 +11,14 @@ pub mod Tests
 pub mod Exists
 pub mod Verdicts
 pub mod Carry
+pub mod Ranges
 pub mod Judging
 pub mod Lengths
 pub mod Bounded
 pub mod Bytes
 pub mod Numbers
 pub mod Replies
+pub mod Blamed
 pub mod Text
 pub mod Asking
 pub mod Beyond
@@ -29,3 +31,4 @@ pub mod Keeps
 pub mod Margins
 pub mod Bench
 pub mod ShutOut
+pub mod RangeBefore

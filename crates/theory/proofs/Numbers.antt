@@ -3,7 +3,7 @@
 -- Assumes nothing.
 use Prim.Native.Nat.{ℕ, zero, suc, _+_, _-_, _*_, _^_, _<_, _≤_}
 use mathlib.Core.Path.{_≡_, refl, sym, ap, subst, _∙_}
-use mathlib.Core.Bool.{Bool, true, false, not, _&&_}
+use mathlib.Core.Bool.{Bool, not, _&&_}
 use mathlib.Core.List.{List, [], _∷_, _++_, append-assoc}
 use native.Mathlib.Decide.{ℕ-discrete}
 use native.Mathlib.Omega.{arith}
@@ -12,15 +12,15 @@ use lib.ListN.{length, getD, take, drop, length-append, length-drop}
 use lib.Pow.{pow-mono}
 use lib.Seq.{drop-drop}
 use borrow.Author.Tests.{le-leb, lt-leb, le-ltb, lt-ltb, eq-eqb, ne-eqb}
-use Rattle.rules.specs.Table.{Op, Table, noOp, nops, op, Accepted}
+use Rattle.rules.specs.Table.{Op, Table, noOp, nops, op, SetOf, Accepted}
 use Rattle.rules.specs.Verdicts.{Verdict, accepted, refused, SHORT, SIZE, ORDER, MANY, RANGE, refuseIf, _then_, onwards, more}
 use Rattle.rules.specs.Bytes.{num8, num16, num32, words, be32, joined, opAt, opBytes, headBytes, tableBytes}
-use Rattle.rules.specs.Judge.{needed, notMany, ranged, fieldTest, repeatTest, fieldsFrom, lenOk, countsOk, setOk, eachSetOk, opOk, judgeWhole, headOf, withOps, opsPlace, headTest, opsFrom, judge, Numbers, opOfNumbers, headOfNumbers, numbersTest, opsOfNumbers, judgeNumbers}
+use Rattle.rules.specs.Judge.{needed, notMany, ranged, fieldTest, repeatTest, fieldsFrom, number, lenWrong, countsWrong, setsWrong, opWrong, judgeWhole, headOf, withOps, opsPlace, headTest, opsFrom, judge, Numbers, opOfNumbers, headOfNumbers, numbersTest, opsOfNumbers, judgeNumbers}
 use Rattle.theory.specs.Numbers.{opNumbers, numbersOf, opsBytes, numbersBytes, CountsFit, SetsFit, OpFits, opAmong, NumbersFit}
-use Rattle.theory.proofs.Says.{says-and}
 use Rattle.theory.proofs.Verdicts.{passes, refuses, then-accepts, then-refuses, then-same, onwards-accepts, onwards-refuses, more-refuses}
-use Rattle.theory.proofs.Judging.{HeadOk, says-set, says-op, says-each-set, says-len, says-counts, whole-accepts, numbers-end, numbers-next, numbers-row, judgeNumbers-row, numbers-ok}
-use Rattle.theory.proofs.Bytes.{past8, past16, two-bytes, four-bytes, words-back, op-back, joined-length, words-length, head-length, field-size, field-whole, field-many, field-more, no-field, ranged-yes, len-ok, fieldsOf, fields-accepted, first-tag, first-whole, first-size, op-repeated}
+use Rattle.theory.proofs.Ranges.{wrong-here, ranged-yes, ranged-no}
+use Rattle.theory.proofs.Judging.{HeadOk, says-sets, op-ok, ok-op, says-len, says-counts, whole-accepts, numbers-end, numbers-next, numbers-row, judgeNumbers-row, numbers-ok}
+use Rattle.theory.proofs.Bytes.{past8, past16, two-bytes, four-bytes, words-back, op-back, joined-length, words-length, head-length, field-size, field-whole, field-many, field-more, no-field, fieldsOf, fields-accepted, first-tag, first-whole, first-size, op-repeated}
 
 -- ---- the operations' numbers
 
@@ -54,7 +54,7 @@ module _ (H : Table) (ns : List ℕ) (at : ℕ) where
 
   whole-numbers : (left : ℕ) → 6 ≤ length ns
       → opsOfNumbers H ns (suc left) at
-      ≡ (ranged (opOk H (opOfNumbers ns)) at then more (opOfNumbers ns) (opsOfNumbers H (drop 6 ns) left (at + 21)))
+      ≡ (ranged (opWrong H (opOfNumbers ns)) at then more (opOfNumbers ns) (opsOfNumbers H (drop 6 ns) left (at + 21)))
   whole-numbers left all =
       numbers-next H ns left at
       ∙ rw (ne-eqb (length ns) 0 (λ e. omega arith)) (then-accepts _ (passes _ SHORT at 0 (le-ltb (length ns) 6 all)))
@@ -76,7 +76,7 @@ module _ (H : Table) (pre there : List ℕ) (n : ℕ) (place : n ≡ length pre)
   cut-size : length cut-field ≡ n + 3 + length there
   cut-size = omega (arith, length-append pre (4 ∷ 0 ∷ 18 ∷ there))
 
-  cut-bytes : (left : ℕ) → fieldsFrom 4 18 (opOk H) opAt cut-field left n ≡ cut left n
+  cut-bytes : (left : ℕ) → fieldsFrom 4 18 (opWrong H) opAt cut-field left n ≡ cut left n
   unfolding fieldsFrom repeatTest cut
   cut-bytes zero =
       simp (
@@ -104,9 +104,9 @@ next-op t d b r w m ns k =
 -- where the whole operations fit, the numbers are judged as their bytes
 module _ (H : Table) where
   ops-written : (ns pre : List ℕ) (left n : ℕ) → n ≡ length pre → ((k : ℕ) → 6 * k + 6 ≤ length ns → OpFits (opAmong ns k))
-      → fieldsFrom 4 18 (opOk H) opAt (pre ++ opsBytes ns) left n ≡ opsOfNumbers H ns left n
+      → fieldsFrom 4 18 (opWrong H) opAt (pre ++ opsBytes ns) left n ≡ opsOfNumbers H ns left n
   unfolding opsBytes
-  ops-written [] pre left n place fit = no-field 4 18 (opOk H) opAt (pre ++ []) n left (omega (arith, length-append pre [])) ∙ sym (none left)
+  ops-written [] pre left n place fit = no-field 4 18 (opWrong H) opAt (pre ++ []) n left (omega (arith, length-append pre [])) ∙ sym (none left)
     where
       none : (left : ℕ) → opsOfNumbers H [] left n ≡ accepted []
       none zero = numbers-end H [] n
@@ -128,10 +128,10 @@ module _ (H : Table) where
       o = record { start = t; dur = d; boards = b; reads = r; writes = w; modes = m }
 
       whole : (left : ℕ)
-          → ((pre : List ℕ) (left n : ℕ) → n ≡ length pre → fieldsFrom 4 18 (opOk H) opAt (pre ++ opsBytes ns) left n ≡ opsOfNumbers H ns left n)
-          → fieldsFrom 4 18 (opOk H) opAt (pre ++ (opBytes o ++ opsBytes ns)) left n ≡ opsOfNumbers H (t ∷ d ∷ b ∷ r ∷ w ∷ m ∷ ns) left n
+          → ((pre : List ℕ) (left n : ℕ) → n ≡ length pre → fieldsFrom 4 18 (opWrong H) opAt (pre ++ opsBytes ns) left n ≡ opsOfNumbers H ns left n)
+          → fieldsFrom 4 18 (opWrong H) opAt (pre ++ (opBytes o ++ opsBytes ns)) left n ≡ opsOfNumbers H (t ∷ d ∷ b ∷ r ∷ w ∷ m ∷ ns) left n
       whole zero rest =
-          field-many 4 18 (opOk H) opAt _ n
+          field-many 4 18 (opWrong H) opAt _ n
           (first-tag op-repeated o pre (opsBytes ns) n place)
           (first-whole op-repeated o pre (opsBytes ns) n place)
           (first-size op-repeated o pre (opsBytes ns) n place)
@@ -141,7 +141,7 @@ module _ (H : Table) where
           let next : n + 3 + 18 ≡ n + 21 = omega arith in
           let place′ : n + 3 + 18 ≡ length (pre ++ opBytes o) = omega (arith, length-append pre (opBytes o)) in
           let more = rest (pre ++ opBytes o) left (n + 3 + 18) place′ ∙ ap (opsOfNumbers H ns left) next in
-          field-more 4 18 (opOk H) opAt _ n
+          field-more 4 18 (opWrong H) opAt _ n
           (first-tag op-repeated o pre (opsBytes ns) n place)
           (first-whole op-repeated o pre (opsBytes ns) n place)
           (first-size op-repeated o pre (opsBytes ns) n place)
@@ -188,8 +188,8 @@ module _ (N : Numbers) (fits : NumbersFit N) where
   follow-back = words-back (N .follow) (take 18 bytes) (opsBytes (N .ops)) 18 (omega arith) (fits .sets .follow)
 
   -- the test of the third field's sets
-  abbrev sets : ℕ → List ℕ → Bool
-  sets first follow = setOk (N .modes) first && eachSetOk (N .modes) follow
+  abbrev sets : ℕ → List ℕ → ℕ
+  sets first follow = setsWrong (N .modes) (first ∷ follow)
 
   -- with the right count of follower words
   module _ (count : length (N .follow) ≡ N .modes) where
@@ -220,13 +220,13 @@ module _ (N : Numbers) (fits : NumbersFit N) where
     ops-same H =
         ops-written H (N .ops) (headBytes (headOfNumbers N)) 32 (opsPlace (N .modes)) (omega (arith, head-length (headOfNumbers N))) (fits .each)
 
-  first-field : fieldTest bytes 0 1 2 (lenOk (num16 bytes 3)) ≡ ranged (lenOk (N .len)) 0
+  first-field : fieldTest bytes 0 1 2 (lenWrong (num16 bytes 3)) ≡ ranged (lenWrong (N .len)) 0
   unfolding numbersBytes
-  first-field = field-whole bytes 0 1 2 _ refl (omega (arith, bytes-length)) refl ∙ ap (λ (p : ℕ). ranged (lenOk p) 0) len-back
+  first-field = field-whole bytes 0 1 2 _ refl (omega (arith, bytes-length)) refl ∙ ap (λ (p : ℕ). ranged (lenWrong p) 0) len-back
 
-  second-field : (ok : Bool) → fieldTest bytes 5 2 3 ok ≡ ranged ok 5
+  second-field : (wrong : ℕ) → fieldTest bytes 5 2 3 wrong ≡ ranged wrong 5
   unfolding numbersBytes
-  second-field ok = field-whole bytes 5 2 3 ok refl (omega (arith, bytes-length)) refl
+  second-field wrong = field-whole bytes 5 2 3 wrong refl (omega (arith, bytes-length)) refl
 
   third-tag : num8 bytes 11 ≡ 3
   unfolding numbersBytes
@@ -243,19 +243,18 @@ module _ (N : Numbers) (fits : NumbersFit N) where
   third-field (yes e) =
       then-same
       (field-whole bytes 11 3 (4 + 4 * N .modes) _ third-tag (omega (arith, bytes-length)) (omega (arith, size-back))
-      ∙ ap (λ (b : Bool). ranged b 11) (sets-back e))
+      ∙ ap (λ (w : ℕ). ranged w 11) (sets-back e))
       (λ _ _. needed-same e)
       ∙ sym (then-accepts _ (passes (not (eqb (length (N .follow)) (N .modes))) SIZE 11 0 (simp (eq-eqb _ _ e))))
   third-field (no n) =
-      let ok = sets (num32 bytes 14) (words bytes 18 (N .modes)) in
-      let wrong = field-size bytes 11 3 (4 + 4 * N .modes) ok third-tag (omega (arith, bytes-length)) (λ z. n (omega (arith, size-back))) in
+      let wrong = field-size bytes 11 3 (4 + 4 * N .modes) (sets (num32 bytes 14) (words bytes 18 (N .modes))) third-tag (omega (arith, bytes-length)) (λ z. n (omega (arith, size-back))) in
       simp (wrong, ne-eqb (length (N .follow)) (N .modes) n)
 
   head-same : headTest bytes ≡ numbersTest N
   unfolding headTest numbersTest numbersBytes
   head-same =
       then-same first-field
-      (λ _ _. then-same (second-field (countsOk (N .boards) (N .cells) (N .modes)))
+      (λ _ _. then-same (second-field (countsWrong (N .boards) (N .cells) (N .modes)))
       (λ _ _. third-field (ℕ-discrete (length (N .follow)) (N .modes))))
 
   -- "judged as if first written in this layout and then read"
@@ -276,26 +275,26 @@ module _ (N : Numbers) (fits : NumbersFit N) where
 below : (k n s : ℕ) → n ≤ k → s < 2 ^ n → s < 2 ^ k
 below k n s h b = let le : 2 ^ n ≤ 2 ^ k = pow-mono h in omega arith
 
-counts-fit : (N : Numbers) → countsOk (N .boards) (N .cells) (N .modes) ≡ true → CountsFit N
+counts-fit : (N : Numbers) → countsWrong (N .boards) (N .cells) (N .modes) ≡ 0 → CountsFit N
 counts-fit N ok =
     let (_, (boards, (cells, (_, modes)))) = says-counts (N .boards) (N .cells) (N .modes) .0 ok in
     record { boards = omega arith; cells = omega arith; modes = omega arith }
 
-sets-fit : (N : Numbers) → countsOk (N .boards) (N .cells) (N .modes) ≡ true
-    → (setOk (N .modes) (N .first) && eachSetOk (N .modes) (N .follow)) ≡ true → SetsFit N
+sets-fit : (N : Numbers) → countsWrong (N .boards) (N .cells) (N .modes) ≡ 0
+    → setsWrong (N .modes) (N .first ∷ N .follow) ≡ 0 → SetsFit N
 sets-fit N ok sets =
     let (_, (_, (_, (_, few)))) = says-counts (N .boards) (N .cells) (N .modes) .0 ok in
-    let (first, follow) = says-and _ _ (says-set (N .modes) (N .first)) (says-each-set (N .modes) (N .follow)) .0 sets in
+    let each = says-sets (N .modes) (N .first ∷ N .follow) .0 sets in
     record {
-      first = below 32 (N .modes) (N .first) few (first .small);
-      follow = λ a h. below 32 (N .modes) (getD (N .follow) a 0) few (follow a h .small);
+      first = below 32 (N .modes) (N .first) few (each 0 (omega arith) .small);
+      follow = λ a h. below 32 (N .modes) (getD (N .follow) a 0) few (each (suc a) (omega arith) .small);
     }
 
-op-fits : (H : Table) → lenOk (H .len) ≡ true → countsOk (H .boards) (H .cells) (H .modes) ≡ true → (o : Op) → opOk H o ≡ true → OpFits o
+op-fits : (H : Table) → lenWrong (H .len) ≡ 0 → countsWrong (H .boards) (H .cells) (H .modes) ≡ 0 → (o : Op) → opWrong H o ≡ 0 → OpFits o
 op-fits H len counts o h =
     let (_, short) = says-len (H .len) .0 len in
     let (_, (boards, (cells, (_, modes)))) = says-counts (H .boards) (H .cells) (H .modes) .0 counts in
-    let x = says-op H o .0 h in
+    let x = op-ok H o h in
     record {
       start = omega (arith, x .fits);
       dur = omega (arith, x .fits);
@@ -307,36 +306,36 @@ op-fits H len counts o h =
 
 -- ---- what is refused, and where
 
--- what is not in its range is refused
-out-of-range : (ok : Bool) (at : ℕ) → (ok ≡ true → ⊥) → ranged ok at ≡ refused RANGE at 0
-unfolding ranged
-out-of-range true at n = absurd (n refl)
-out-of-range false at n = refuses true RANGE at 0 refl
+-- a length above 1000 is the only number of its field
+len-wrong : (p : ℕ) → 1000 < p → lenWrong p ≡ 3
+unfolding lenWrong
+len-wrong p h = wrong-here 3 (number 2 (leb 1 p && leb p 1000)) [] (simp (le-leb 1 p (omega arith), lt-leb p 1000 h))
 
 module _ (N : Numbers) where
   abbrev LenGood : Type 0
-  LenGood = lenOk (N .len) ≡ true
+  LenGood = lenWrong (N .len) ≡ 0
 
   abbrev CountsGood : Type 0
-  CountsGood = countsOk (N .boards) (N .cells) (N .modes) ≡ true
+  CountsGood = countsWrong (N .boards) (N .cells) (N .modes) ≡ 0
 
   -- a refusal before the operations is the verdict
   head-refused : {n a b : ℕ} → numbersTest N ≡ refused n a b → judgeNumbers N ≡ refused n a b
   head-refused e = judgeNumbers-row N ∙ then-refuses _ e
 
   -- "A number too large for its field": p
-  pub len-too-large : 65536 ≤ N .len → judgeNumbers N ≡ refused RANGE 0 0
+  pub len-too-large : 65536 ≤ N .len → judgeNumbers N ≡ refused RANGE 0 3
   len-too-large large =
-      head-refused
-      (numbers-row N ∙ then-refuses _ (out-of-range _ 0 (λ e. let (_, high) = says-len (N .len) .0 e in omega arith)))
+      let wrong = len-wrong (N .len) (omega arith) in
+      let place : 0 + lenWrong (N .len) ≡ 3 = omega (arith, wrong) in
+      head-refused (numbers-row N ∙ then-refuses _ (ranged-no _ 0 (λ e. omega (arith, wrong)) ∙ ap (refused RANGE 0) place))
 
   -- one of the counts
-  pub counts-too-large : LenGood → (CountsFit N → ⊥) → judgeNumbers N ≡ refused RANGE 5 0
+  pub counts-too-large : LenGood → (CountsFit N → ⊥) → judgeNumbers N ≡ refused RANGE 5 (5 + countsWrong (N .boards) (N .cells) (N .modes))
   counts-too-large len large =
       head-refused
       (numbers-row N
       ∙ then-accepts _ (ranged-yes _ 0 len)
-      ∙ then-refuses _ (out-of-range _ 5 (λ e. large (counts-fit N e))))
+      ∙ then-refuses _ (ranged-no _ 5 (λ e. large (counts-fit N e))))
 
   -- "A wrong count of follower words is SIZE"
   pub words-size : LenGood → CountsGood → (length (N .follow) ≡ N .modes → ⊥) → judgeNumbers N ≡ refused SIZE 11 0
@@ -352,14 +351,14 @@ module _ (N : Numbers) where
   words-written fits len counts wrong = sym (as-written N fits) ∙ words-size len counts wrong
 
   -- the first modes, or a follower word
-  pub sets-too-large : LenGood → CountsGood → length (N .follow) ≡ N .modes → (SetsFit N → ⊥) → judgeNumbers N ≡ refused RANGE 11 0
+  pub sets-too-large : LenGood → CountsGood → length (N .follow) ≡ N .modes → (SetsFit N → ⊥) → judgeNumbers N ≡ refused RANGE 11 (11 + setsWrong (N .modes) (N .first ∷ N .follow))
   sets-too-large len counts count large =
       head-refused
       (numbers-row N
       ∙ then-accepts _ (ranged-yes _ 0 len)
       ∙ then-accepts _ (ranged-yes _ 5 counts)
       ∙ then-accepts _ (passes _ SIZE 11 0 (rw (eq-eqb (length (N .follow)) (N .modes) count)))
-      ∙ then-refuses _ (out-of-range _ 11 (λ e. large (sets-fit N counts e))))
+      ∙ then-refuses _ (ranged-no _ 11 (λ e. large (sets-fit N counts e))))
 
   -- what stands before the operations passes
   head-passes : HeadOk (headOfNumbers N) → 0 < length (N .ops) → numbersTest N ≡ accepted tt
@@ -373,7 +372,7 @@ module _ (N : Numbers) where
 
 -- the first k operations in their ranges, a refusal of what comes behind them is the verdict
 ops-behind : (H : Table) (k : ℕ) (ns : List ℕ) (left all at : ℕ) {n a b : ℕ} → all ≡ k + left → 6 * k ≤ length ns
-    → ((j : ℕ) → j < k → opOk H (opAmong ns j) ≡ true)
+    → ((j : ℕ) → j < k → opWrong H (opAmong ns j) ≡ 0)
     → opsOfNumbers H (drop (6 * k) ns) left (at + 21 * k) ≡ refused n a b → opsOfNumbers H ns all at ≡ refused n a b
 ops-behind H zero ns left all at count long good e =
     let same : all ≡ left = omega arith in
@@ -395,12 +394,12 @@ ops-behind H (suc k) ns left (suc all) at {n} {a} {b} count long good e =
     (ops-behind H k (drop 6 ns) left all (at + 21) (omega arith) (omega (arith, length-drop 6 ns))
     (λ j h.
     let next : 6 + 6 * j ≡ 6 * suc j = omega arith in
-    ap (λ (l : List ℕ). opOk H (opOfNumbers l)) (behind j ∙ ap (λ (i : ℕ). drop i ns) next) ∙ good (suc j) (omega arith))
+    ap (λ (l : List ℕ). opWrong H (opOfNumbers l)) (behind j ∙ ap (λ (i : ℕ). drop i ns) next) ∙ good (suc j) (omega arith))
     rest)
 
 -- what stands before the operations in its ranges, and the first k operations in theirs, k below 32
 module _ (N : Numbers) (head : HeadOk (headOfNumbers N)) (k : ℕ) (few : k < 32)
-    (good : (j : ℕ) → j < k → opOk (headOfNumbers N) (opAmong (N .ops) j) ≡ true) where
+    (good : (j : ℕ) → j < k → opWrong (headOfNumbers N) (opAmong (N .ops) j) ≡ 0) where
   behind-refused : {n a b : ℕ} → 6 * k < length (N .ops)
       → ((left : ℕ) → opsOfNumbers (headOfNumbers N) (drop (6 * k) (N .ops)) (suc left) (opsPlace (N .modes) + 21 * k) ≡ refused n a b)
       → judgeNumbers N ≡ refused n a b
@@ -416,14 +415,16 @@ module _ (N : Numbers) (head : HeadOk (headOfNumbers N)) (k : ℕ) (few : k < 32
       behind-refused some (λ left. short-numbers (headOfNumbers N) (drop (6 * k) (N .ops)) _ left (omega arith) (omega arith))
 
   -- a number of operation k that is too large for its field
-  pub op-too-large : 6 * k + 6 ≤ length (N .ops) → (OpFits (opAmong (N .ops) k) → ⊥) → judgeNumbers N ≡ refused RANGE (opsPlace (N .modes) + 21 * k) 0
+  pub op-too-large : 6 * k + 6 ≤ length (N .ops) → (OpFits (opAmong (N .ops) k) → ⊥)
+      → judgeNumbers N
+      ≡ refused RANGE (opsPlace (N .modes) + 21 * k) (opsPlace (N .modes) + 21 * k + opWrong (headOfNumbers N) (opAmong (N .ops) k))
   op-too-large all large =
       let left-over = length-drop (6 * k) (N .ops) in
       behind-refused (omega arith)
       (λ left.
       whole-numbers (headOfNumbers N) (drop (6 * k) (N .ops)) _ left (omega arith)
       ∙ then-refuses _
-      (out-of-range _ _ (λ e. large (op-fits (headOfNumbers N) (head .len) (head .counts) (opAmong (N .ops) k) e))))
+      (ranged-no _ _ (λ e. large (op-fits (headOfNumbers N) (head .len) (head .counts) (opAmong (N .ops) k) e))))
 
 -- ---- an accepted table
 
@@ -438,18 +439,18 @@ numbers-length : (os : List Op) → length (joined opNumbers os) ≡ 6 * length 
 numbers-length = joined-length opNumbers 6 (λ o. refl)
 
 -- they are judged by what they are
-ops-numbers : (H : Table) (os : List Op) (left at : ℕ) → opsOfNumbers H (joined opNumbers os) left at ≡ fieldsOf 18 (opOk H) os left at
+ops-numbers : (H : Table) (os : List Op) (left at : ℕ) → opsOfNumbers H (joined opNumbers os) left at ≡ fieldsOf 18 (opWrong H) os left at
 unfolding opsOfNumbers joined fieldsOf
 ops-numbers H [] zero at = refl
 ops-numbers H [] (suc left) at = refl
 ops-numbers H (o ∷ os) zero at = simp eqb·suc-zero
 ops-numbers H (o ∷ os) (suc left) at =
     let next : at + 21 ≡ at + 3 + 18 = omega arith in
-    let rest = ops-numbers H os left (at + 21) ∙ ap (fieldsOf 18 (opOk H) os left) next in
-    simp (eqb·suc-zero, le-ltb (length (joined opNumbers (o ∷ os))) 6 (omega arith)) (ap (λ v. ranged (opOk H o) at then more o v) rest)
+    let rest = ops-numbers H os left (at + 21) ∙ ap (fieldsOf 18 (opWrong H) os left) next in
+    simp (eqb·suc-zero, le-ltb (length (joined opNumbers (o ∷ os))) 6 (omega arith)) (ap (λ v. ranged (opWrong H o) at then more o v) rest)
 
 -- a table in its ranges is judged by its pairs, handed over and written
-module _ (T : Table) (head : HeadOk T) (some : 1 ≤ nops T) (few : nops T ≤ 32) (good : (i : ℕ) → i < nops T → opOk T (op T i) ≡ true) where
+module _ (T : Table) (head : HeadOk T) (some : 1 ≤ nops T) (few : nops T ≤ 32) (good : (i : ℕ) → i < nops T → opWrong T (op T i) ≡ 0) where
   ranges-fit : NumbersFit (numbersOf T)
   unfolding numbersOf
   ranges-fit =
@@ -467,7 +468,7 @@ module _ (T : Table) (head : HeadOk T) (some : 1 ≤ nops T) (few : nops T ≤ 3
       }
 
   ranges-numbers : judgeNumbers (numbersOf T) ≡ judgeWhole T
-  unfolding numbersOf opOk
+  unfolding numbersOf opWrong
   ranges-numbers =
       let H = headOfNumbers (numbersOf T) in
       judgeNumbers-row (numbersOf T)
@@ -475,7 +476,7 @@ module _ (T : Table) (head : HeadOk T) (some : 1 ≤ nops T) (few : nops T ≤ 3
       (head-passes (numbersOf T) (record { len = head .len; counts = head .counts; words = head .words; sets = head .sets })
       (omega (arith, numbers-length (T .ops))))
       ∙ onwards-accepts (λ os. judgeWhole (withOps H os))
-      (ops-numbers H (T .ops) 32 (opsPlace (T .modes)) ∙ fields-accepted noOp 18 (opOk T) (T .ops) 32 (opsPlace (T .modes)) few good)
+      (ops-numbers H (T .ops) 32 (opsPlace (T .modes)) ∙ fields-accepted noOp 18 (opWrong T) (T .ops) 32 (opsPlace (T .modes)) few good)
 
   pub ranges-written : judge (tableBytes T) ≡ judgeWhole T
   ranges-written = ap judge (sym (table-written T)) ∙ sym (as-written (numbersOf T) ranges-fit) ∙ ranges-numbers
@@ -484,16 +485,18 @@ module _ (T : Table) (ok : Accepted T) where
   accepted-head : HeadOk T
   accepted-head =
       record {
-        len = len-ok (T .len) (ok .len-low) (ok .len-high);
+        len = says-len (T .len) .1 (ok .len-low, ok .len-high);
         counts = says-counts _ _ _ .1 (ok .boards-low, (ok .boards-high, (ok .cells-high, (ok .modes-low, ok .modes-high))));
         words = ok .words;
-        sets =
-            says-and _ _ (says-set (T .modes) (T .first)) (says-each-set (T .modes) (T .follow)) .1
-            (ok .firsts, λ a h. ok .follows a (omega (arith, ok .words)));
+        sets = says-sets (T .modes) (T .first ∷ T .follow) .1 (λ a h. set a h);
       }
+    where
+      set : (a : ℕ) → a < length (T .first ∷ T .follow) → SetOf (T .modes) (getD (T .first ∷ T .follow) a 0)
+      set zero h = ok .firsts
+      set (suc a) h = ok .follows a (omega (arith, ok .words))
 
-  accepted-ops : (i : ℕ) → i < nops T → opOk T (op T i) ≡ true
-  accepted-ops i h = says-op T (op T i) .1 (ok .each i h)
+  accepted-ops : (i : ℕ) → i < nops T → opWrong T (op T i) ≡ 0
+  accepted-ops i h = ok-op T (op T i) (ok .len-high) (ok .each i h)
 
   pub accepted-numbers : judgeNumbers (numbersOf T) ≡ accepted T
   accepted-numbers = ranges-numbers T accepted-head (ok .ops-low) (ok .ops-high) accepted-ops ∙ whole-accepts T ok

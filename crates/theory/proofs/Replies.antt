@@ -2,8 +2,8 @@
 -- Assumes nothing.
 use Prim.Native.Nat.{ℕ, _+_, _*_, _<_, _≤_}
 use mathlib.Core.Path.{_≡_, refl, sym, ap, _∙_}
-use mathlib.Core.Bool.{true}
 use mathlib.Core.List.{List, [], _∷_, _++_, map}
+use mathlib.Core.Logic.{_↔_}
 use native.Mathlib.Nat.{div-add-mod', mod-lt, mul-le-mul-left}
 use native.Mathlib.Omega.{arith}
 use lib.Dec.{leb}
@@ -13,11 +13,13 @@ use Rattle.rules.specs.Table.{Op, Table, noOp, op, Accepted}
 use Rattle.rules.specs.Rows.{Ticks, Row, Reply, ticks, cycles, foldAt, unfoldAt, replyOf, startsOf}
 use Rattle.rules.specs.Verdicts.{accepted, ORDER, _then_, onwards}
 use Rattle.rules.specs.Bytes.{num16, rowBytes, replyBytes, rowAt}
-use Rattle.rules.specs.Judge.{lenOk, needed, fieldTest, rowOk, rowsFrom, replyTest, judgeReply}
-use Rattle.theory.proofs.Says.{Says, says-leb, says-ltb, says-and}
+use Rattle.rules.specs.Judge.{lenWrong, needed, fieldTest, rowRanges, rowWrong, rowsFrom, replyTest, judgeReply}
+use Rattle.rules.specs.Bench.{All}
+use Rattle.theory.proofs.Says.{says-leb, says-ltb}
 use Rattle.theory.proofs.Verdicts.{passes, then-accepts, then-first, then-rest, onwards-accepts, onwards-first}
+use Rattle.theory.proofs.Ranges.{none-wrong, ranged-yes}
 use Rattle.theory.proofs.Judging.{field-passed, says-len, fields-passing, fields-values}
-use Rattle.theory.proofs.Bytes.{two-bytes, past16, reply-length, field-whole, ranged-yes, len-ok, fields-accepted, Repeated, fields-back}
+use Rattle.theory.proofs.Bytes.{two-bytes, past16, reply-length, field-whole, fields-accepted, Repeated, fields-back}
 
 -- ---- fold and unfold
 
@@ -58,18 +60,22 @@ row-back r h pre post n place =
 row-repeated : Repeated 18 4 rowAt rowBytes RowFits
 row-repeated = record { width = λ r. refl; tagged = λ r post. refl; sized = λ r post. refl; back = row-back }
 
-says-row : (q : Ticks) (r : Row) → Says (rowOk q r) ((r .start .number < q .number) × (unfoldAt q r .number ≤ 999))
-unfolding rowOk
-says-row q r = says-and _ _ (says-ltb _ _) (says-leb _ _)
+pub says-row : (q : Ticks) (r : Row) → (rowWrong q r ≡ 0) ↔ ((r .start .number < q .number) × (unfoldAt q r .number ≤ 999))
+unfolding rowWrong All
+says-row q r =
+    let none = none-wrong (rowRanges q r) in
+    let below = says-ltb (r .start .number) (q .number) in
+    let near = says-leb (unfoldAt q r .number) 999 in
+    (λ e. let (b, (n, _)) = none .0 e in (below .0 b, near .0 n), λ x. none .1 (below .1 (x .0), (near .1 (x .1), tt)))
 
 -- a row in its ranges fits
-row-fits : (q : Ticks) (r : Row) → 1 ≤ q .number → q .number ≤ 1000 → rowOk q r ≡ true → RowFits r
+row-fits : (q : Ticks) (r : Row) → 1 ≤ q .number → q .number ≤ 1000 → rowWrong q r ≡ 0 → RowFits r
 row-fits q r low high h =
     let (below, near) = says-row q r .0 h in
     record { start = omega arith; fst = omega (arith, mul-le-mul-left (r .fst .number) low) }
 
 -- a start of an accepted table folds to a row in its ranges
-fold-ok : (q t : ℕ) → 1 ≤ q → t ≤ 999 → rowOk (ticks q) (foldAt (ticks q) (ticks t)) ≡ true
+fold-ok : (q t : ℕ) → 1 ≤ q → t ≤ 999 → rowWrong (ticks q) (foldAt (ticks q) (ticks t)) ≡ 0
 fold-ok q t low h =
     says-row (ticks q) (foldAt (ticks q) (ticks t)) .1
     (fold-below q t low, omega (arith, ap (λ (x : Ticks). x .number) (unfold-fold q t)))
@@ -78,7 +84,7 @@ fold-ok q t low h =
 
 module _ (R : Reply) (d : Row) (low : 1 ≤ R .period .number) (high : R .period .number ≤ 1000)
     (some : 1 ≤ length (R .rows)) (few : length (R .rows) ≤ 32)
-    (each : (i : ℕ) → i < length (R .rows) → rowOk (R .period) (getD (R .rows) i d) ≡ true) where
+    (each : (i : ℕ) → i < length (R .rows) → rowWrong (R .period) (getD (R .rows) i d) ≡ 0) where
   period-back : num16 (replyBytes R) 3 ≡ R .period .number
   unfolding replyBytes
   period-back = two-bytes (R .period .number) (omega arith)
@@ -87,16 +93,16 @@ module _ (R : Reply) (d : Row) (low : 1 ≤ R .period .number) (high : R .period
   unfolding replyTest replyBytes needed
   reply-passes =
       let size = reply-length R in
-      let field = field-whole (replyBytes R) 0 17 2 (lenOk (num16 (replyBytes R) 3)) refl (omega arith) refl in
-      then-accepts _ (field ∙ ranged-yes _ 0 (ap lenOk period-back ∙ len-ok (R .period .number) low high))
+      let field = field-whole (replyBytes R) 0 17 2 (lenWrong (num16 (replyBytes R) 3)) refl (omega arith) refl in
+      then-accepts _ (field ∙ ranged-yes _ 0 (ap lenWrong period-back ∙ says-len (R .period .number) .1 (low, high)))
       ∙ passes (leb (length (replyBytes R)) 5) ORDER 5 0 (lt-leb (length (replyBytes R)) 5 (omega arith))
 
   rows-back : rowsFrom (R .period) (replyBytes R) 32 5 ≡ accepted (R .rows)
   unfolding rowsFrom replyBytes
   rows-back =
-      fields-back row-repeated d (rowOk (R .period)) (R .rows) (take 5 (replyBytes R)) 32 5 (omega arith)
+      fields-back row-repeated d (rowWrong (R .period)) (R .rows) (take 5 (replyBytes R)) 32 5 (omega arith)
       (λ i h. row-fits _ _ low high (each i h))
-      ∙ fields-accepted d 4 (rowOk (R .period)) (R .rows) 32 5 few each
+      ∙ fields-accepted d 4 (rowWrong (R .period)) (R .rows) 32 5 few each
 
   reply-back : judgeReply (replyBytes R) ≡ accepted R
   unfolding judgeReply
@@ -112,7 +118,7 @@ reply-read T ok q low high =
     let count = length-map (T .ops) (folded q) in
     reply-back (replyOf T q) (folded q noOp) low (omega arith) (omega arith) (omega arith)
     (λ i h.
-    ap (rowOk (ticks q)) (List·getD-map (folded q) (T .ops) i noOp)
+    ap (rowWrong (ticks q)) (List·getD-map (folded q) (T .ops) i noOp)
     ∙ fold-ok q (op T i .start) low (let o = ok .each i (omega arith) in omega arith))
 
 -- ---- a reply that is accepted, as its bytes have it
@@ -126,7 +132,7 @@ pub record ReplyIn (s : List ℕ) (R : Reply) : Type 0 where
 module _ (s : List ℕ) where
   -- the rows of tests that the judgement of a reply is
   pub reply-row : judgeReply s
-      ≡ ((fieldTest s 0 17 2 (lenOk (num16 s 3)) then needed s 5)
+      ≡ ((fieldTest s 0 17 2 (lenWrong (num16 s 3)) then needed s 5)
       then onwards (rowsFrom (ticks (num16 s 3)) s 32 5) (λ rs. accepted (record { period = ticks (num16 s 3); rows = rs })))
   unfolding judgeReply replyTest
   reply-row = refl
@@ -137,9 +143,9 @@ module _ (s : List ℕ) where
   rows-in rs come ranges long =
       let q = ticks (num16 s 3) in
       let d = rowAt s 0 in
-      let passing = fields-passing 18 4 (rowOk q) rowAt s d 32 5 rs come in
+      let passing = fields-passing 18 4 (rowWrong q) rowAt s d 32 5 rs come in
       let place : (i : ℕ) → 5 + i * 7 ≡ 5 + 7 * i = λ i. omega arith in
-      let row : (d : Row) (i : ℕ) → i < length rs → getD rs i d ≡ rowAt s (5 + 7 * i) = λ d i h. fields-values 18 4 (rowOk q) rowAt s d 32 5 rs come i h ∙ ap (rowAt s) (place i) in
+      let row : (d : Row) (i : ℕ) → i < length rs → getD rs i d ≡ rowAt s (5 + 7 * i) = λ d i h. fields-values 18 4 (rowWrong q) rowAt s d 32 5 rs come i h ∙ ap (rowAt s) (place i) in
       record {
         period = refl;
         low = ranges .0;
@@ -151,8 +157,8 @@ module _ (s : List ℕ) where
   pub reply-in : (R : Reply) → judgeReply s ≡ accepted R → ReplyIn s R
   reply-in R e =
       let here = sym reply-row ∙ e in
-      let test = then-first (fieldTest s 0 17 2 (lenOk (num16 s 3))) (needed s 5) (then-first _ _ here .1) .1 in
-      let (long, ok) = field-passed s 0 17 2 (lenOk (num16 s 3)) test in
+      let test = then-first (fieldTest s 0 17 2 (lenWrong (num16 s 3))) (needed s 5) (then-first _ _ here .1) .1 in
+      let (long, ok) = field-passed s 0 17 2 (lenWrong (num16 s 3)) test in
       let (rs, come, whole) = onwards-first (rowsFrom (ticks (num16 s 3)) s 32 5) _ (then-rest _ _ here) in
       let same : R ≡ record { period = ticks (num16 s 3); rows = rs } = cc in
       rw same (rows-in rs come (says-len (num16 s 3) .0 ok) long)

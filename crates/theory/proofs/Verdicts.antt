@@ -1,7 +1,7 @@
 -- Laws of verdicts: what it takes that a row of tests accepts, and when two rows of tests agree.
 -- Assumes nothing.
 use Prim.Native.Nat.{ℕ, zero, suc, _+_, _<_, _≤_}
-use mathlib.Core.Path.{_≡_, refl, ap, subst, _∙_}
+use mathlib.Core.Path.{_≡_, refl, sym, ap, subst, _∙_}
 use mathlib.Core.Bool.{Bool, true, false}
 use mathlib.Core.List.{List, _∷_}
 use native.Mathlib.Omega.{arith}
@@ -11,6 +11,10 @@ use Rattle.theory.proofs.Order.{Cmp, cmp}
 -- an accepted verdict is no refusal
 pub never-refused : {A X : Type 0} {x : A} {n a b : ℕ} → refused n a b ≡ accepted x → X
 never-refused {A} {x = x} {n} {a} {b} e = let z : _≡_ {A = ℕ} 0 1 = cc in absurd (omega arith)
+
+-- two refusals that are one have the same figures
+same-figures : {A : Type 0} {n a b m c d : ℕ} → _≡_ {A = Verdict A} (refused n a b) (refused m c d) → (n ≡ m) × (a ≡ c) × (b ≡ d)
+same-figures e = (cc, cc, cc)
 
 -- ---- a test
 
@@ -26,6 +30,12 @@ pub passed : (fault : Bool) (n a b : ℕ) → refuseIf fault n a b ≡ accepted 
 unfolding refuseIf
 passed false n a b e = refl
 passed true n a b e = never-refused e
+
+-- what a test refuses, it refuses with its own numbers
+pub fault-refused : (fault : Bool) {n a b m c d : ℕ} → refuseIf fault n a b ≡ refused m c d → (fault ≡ true) × (m ≡ n) × (a ≡ c) × (b ≡ d)
+unfolding refuseIf
+fault-refused true e = (refl, cc, cc, cc)
+fault-refused false e = never-refused (sym e)
 
 -- ---- one after the other
 
@@ -49,6 +59,13 @@ module _ {A B : Type 0} where
   then-rest (accepted x) w e = e
   then-rest (refused n a b) w e = never-refused e
 
+  -- what refuses is the first test, or the rest after a first that accepts
+  pub then-refused : {X : Type 0} (v : Verdict A) (w : Verdict B) {n a b : ℕ} → (v then w) ≡ refused n a b
+      → (v ≡ refused n a b → X) → ((x : A) → v ≡ accepted x → w ≡ refused n a b → X) → X
+  unfolding _then_
+  then-refused (accepted x) w e first rest = rest x refl e
+  then-refused (refused m c d) w e first rest = let (p, q, r) = same-figures e in first (rw (p, q, r))
+
   -- two rows agree where their firsts do, and their rests wherever the first accepts
   pub then-same : {v v′ : Verdict A} {w w′ : Verdict B} → v ≡ v′ → ((x : A) → v′ ≡ accepted x → w ≡ w′) → (v then w) ≡ (v′ then w′)
   unfolding _then_
@@ -61,6 +78,12 @@ module _ {A B : Type 0} where
   pub onwards-refuses : {n a b : ℕ} {v : Verdict A} (f : A → Verdict B) → v ≡ refused n a b → onwards v f ≡ refused n a b
   unfolding onwards
   onwards-refuses f e = rw e
+
+  pub onwards-refused : {X : Type 0} (v : Verdict A) (f : A → Verdict B) {n a b : ℕ} → onwards v f ≡ refused n a b
+      → (v ≡ refused n a b → X) → ((x : A) → v ≡ accepted x → f x ≡ refused n a b → X) → X
+  unfolding onwards
+  onwards-refused (accepted x) f e first rest = rest x refl e
+  onwards-refused (refused m c d) f e first rest = let (p, q, r) = same-figures e in first (rw (p, q, r))
 
   pub onwards-accepts : {x : A} {v : Verdict A} (f : A → Verdict B) → v ≡ accepted x → onwards v f ≡ f x
   unfolding onwards
@@ -104,6 +127,11 @@ module _ {A : Type 0} where
   unfolding more
   more-first x (accepted xs) e = (xs, refl, cc)
   more-first x (refused n a b) e = never-refused e
+
+  pub more-refused : (x : A) (v : Verdict (List A)) {n a b : ℕ} → more x v ≡ refused n a b → v ≡ refused n a b
+  unfolding more
+  more-refused x (accepted xs) e = never-refused (sym e)
+  more-refused x (refused m c d) e = let (p, q, r) = same-figures e in rw (p, q, r)
 
 -- ---- a test for each number
 pub each-accepts : (f : ℕ → Test) (i n : ℕ) → ((k : ℕ) → i ≤ k → k < i + n → f k ≡ accepted tt) → each f i n ≡ accepted tt

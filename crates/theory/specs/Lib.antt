@@ -5,3 +5,5 @@ pub mod Tests
 pub mod Planners
 pub mod Pairs
 pub mod Numbers
+pub mod Blamed
+pub mod RangeBefore

@@ -9,7 +9,7 @@ use borrow.Author.Needs.{needs}
 use Rattle.fields.specs.Verdicts.{tested}
 use Rattle.table.specs.Tables.{tableOf}
 use Rattle.handed_ops.specs.HandedOps.{countsOf}
-use Rattle.handed_ops.specs.OpsLaws.{Ready, op-ready, Taken, taken-none, taken-small, taken-end, taken-bad, taken-more}
+use Rattle.handed_ops.specs.OpsLaws.{Ready, op-ready, Taken, taken-none, taken-small, taken-near, taken-end, taken-bad, taken-more}
 use Rattle.handed_ops.proofs.take_ops.Statement.{statement}
 use Rattle.handed_ops.proofs.take_ops.Tie as tie
 
@@ -29,7 +29,7 @@ op-test-requires : tie.Need-op-test-requires Inv-loop μ-loop
 op-test-requires c κs =
     let i = c .before in
     let small = taken-small _ _ (i .loop .inv) (i .before .before .before .pre .1) in
-    (i .loop .inv .inside, small .0, small .1)
+    (i .loop .inv .inside, small .0, small .1, taken-near _ _ (i .loop .inv) (i .before .before .before .pre .1))
 
 enum-known-v : tie.Need-enum-known-v Inv-loop μ-loop
 enum-known-v c = search needs

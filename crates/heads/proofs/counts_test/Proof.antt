@@ -2,6 +2,7 @@
 -- Assumes nothing.
 use mathlib.Core.Path.{sym, _∙_}
 use native.Mathlib.Omega.{arith}
+use Rattle.theory.proofs.Ranges.{counts-within}
 use Rattle.fields.specs.FieldLaws.{field-passed, field-bad, field-ranged}
 use Rattle.fields.specs.RefusalLaws.{passed-as, refused-as}
 use borrow.Author.Needs.{needs}
@@ -35,11 +36,15 @@ byte-requires-3 c κs = let f = c .before .before .before .before in omega (arit
 cast-modes : tie.Need-cast-modes
 cast-modes c = search needs
 
-counts-ok-requires : tie.Need-counts-ok-requires
-counts-ok-requires c κs = search needs
+counts-wrong-requires : tie.Need-counts-wrong-requires
+counts-wrong-requires c κs = search needs
 
 range-test-requires : tie.Need-range-test-requires
-range-test-requires c κs = search needs
+range-test-requires c κs =
+    let b3 = c .before in
+    let b2 = b3 .before in
+    let b1 = b2 .before in
+    omega (arith, c .counts-wrong .ensures, counts-within (b1 .byte .result) (b2 .byte2 .result) (b3 .byte3 .result))
 
 returns : tie.Need-returns
 returns c = let f = c .before .before .before in field-bad _ _ _ _ _ (c .before .v .given .0 .0) (refused-as (f .field-at .ensures) (c .before .v .given .1))
@@ -52,7 +57,7 @@ returns-2 c =
     let f = b1 .before .before .before in
     c .range-test .ensures
     ∙ field-ranged _ _ _ _ _ _ (passed-as (f .field-at .ensures) (b1 .before .enum-told .given .1))
-    (c .before .counts-ok .ensures ∙ rw (b1 .byte .ensures .0, b2 .byte2 .ensures .0, b3 .byte3 .ensures .0))
+    (c .before .counts-wrong .ensures ∙ rw (b1 .byte .ensures .0, b2 .byte2 .ensures .0, b3 .byte3 .ensures .0))
 
 pub counts-test-spec : {M : Type 1} → statement M
 counts-test-spec =
@@ -67,7 +72,7 @@ counts-test-spec =
     cast-cells
     byte-requires-3
     cast-modes
-    counts-ok-requires
+    counts-wrong-requires
     range-test-requires
     returns
     returns-2)

@@ -4,6 +4,8 @@ use mathlib.Core.Path.{sym, _∙_}
 use native.Mathlib.Omega.{arith}
 use Rattle.fields.specs.FieldLaws.{field-passed, field-bad, field-ranged}
 use Rattle.fields.specs.RefusalLaws.{passed-as, refused-as}
+use Rattle.heads.specs.WordLaws.{sets-near}
+use denote.Ref.{now}
 use borrow.Author.Needs.{needs}
 use Rattle.heads.proofs.modes_test.Statement.{statement}
 use Rattle.heads.proofs.modes_test.Tie as tie
@@ -23,13 +25,15 @@ enum-known-v c = search needs
 enum-told : tie.Need-enum-told
 enum-told c = search needs
 
-sets-ok-requires : tie.Need-sets-ok-requires
-sets-ok-requires c κs =
+sets-wrong-requires : tie.Need-sets-wrong-requires
+sets-wrong-requires c κs =
     let f = c .before .before in
     (search needs, omega (arith, field-passed _ _ _ _ (sym (passed-as (f .field-at .ensures) (c .enum-told .given .1)))))
 
 range-test-requires : tie.Need-range-test-requires
-range-test-requires c κs = search needs
+range-test-requires c κs =
+    let a = c .before .before .before .before .before .args in
+    omega (arith, c .sets-wrong .ensures, sets-near (now (a .s)) (a .modes) (a .modes))
 
 returns : tie.Need-returns
 returns c = let f = c .before .before .before in field-bad _ _ _ _ _ (c .before .v .given .0 .0) (refused-as (f .field-at .ensures) (c .before .v .given .1))
@@ -39,7 +43,7 @@ returns-2 c =
     let b = c .before in
     let f = b .before .before .before in
     c .range-test .ensures
-    ∙ field-ranged _ _ _ _ _ _ (passed-as (f .field-at .ensures) (b .before .enum-told .given .1)) (b .sets-ok .ensures)
+    ∙ field-ranged _ _ _ _ _ _ (passed-as (f .field-at .ensures) (b .before .enum-told .given .1)) (b .sets-wrong .ensures)
 
 pub modes-test-spec : {M : Type 1} → statement M
 modes-test-spec =
@@ -50,7 +54,7 @@ modes-test-spec =
     field-at-requires
     enum-known-v
     enum-told
-    sets-ok-requires
+    sets-wrong-requires
     range-test-requires
     returns
     returns-2)

@@ -2,10 +2,10 @@
 -- Assumes nothing.
 use native.Mathlib.Omega.{arith}
 use mathlib.Core.Path.{sym, ap, _∙_}
-use borrow.Author.Tests.{not-true, not-false}
 use Rattle.rules.specs.Verdicts.{accepted}
 use Rattle.fields.specs.FieldLaws.{repeat-passed}
 use Rattle.fields.specs.RefusalLaws.{passed-as, refused-as}
+use Rattle.ranges.specs.RangeLaws.{wrong-near}
 use Rattle.reading.specs.ReadingLaws.{op-judged, op-bad, op-range, op-fine}
 use borrow.Author.Needs.{needs}
 use Rattle.reading.proofs.next_op.Statement.{statement}
@@ -30,8 +30,15 @@ read-op-requires c κs =
     let f = c .before .before in
     omega (arith, repeat-passed _ _ _ _ _ (sym (passed-as (f .repeated-at .ensures) (c .enum-told .given .1))) .0)
 
-wide-ok-requires : tie.Need-wide-ok-requires
-wide-ok-requires c κs = search needs
+wide-wrong-requires : tie.Need-wide-wrong-requires
+wide-wrong-requires c κs = search needs
+
+add-t13 : tie.Need-add-t13
+add-t13 c =
+    let w = c .before in
+    let e = w .before .before in
+    let f = e .before .before in
+    omega (arith, repeat-passed _ _ _ _ _ (sym (passed-as (f .repeated-at .ensures) (e .enum-told .given .1))) .0, wrong-near _ _ (w .wide-wrong .ensures))
 
 returns-2 : tie.Need-returns-2
 returns-2 c =
@@ -39,13 +46,13 @@ returns-2 c =
     let e = w .before .before in
     let f = e .before .before in
     op-range _ _ _ _ (passed-as (f .repeated-at .ensures) (e .enum-told .given .1))
-    (op-judged _ (sym (not-true _ (c .if1 .taken)) ∙ w .wide-ok .ensures) (w .before .read-op .ensures))
+    (op-judged _ (w .wide-wrong .ensures) (w .before .read-op .ensures)) (c .if1 .taken)
 
 narrow-requires : tie.Need-narrow-requires
 narrow-requires c κs =
     let w = c .before in
     let pre = w .before .before .before .before .before .before .pre in
-    (pre .1, pre .2, pre .3, sym (w .wide-ok .ensures) ∙ not-false _ (c .if1 .left))
+    (pre .1, pre .2, pre .3, sym (w .wide-wrong .ensures) ∙ c .if1 .left)
 
 returns-3 : tie.Need-returns-3
 returns-3 c =
@@ -54,7 +61,7 @@ returns-3 c =
     let f = e .before .before in
     ap accepted (c .narrow .ensures ∙ w .before .read-op .ensures)
     ∙ op-fine _ _ _ _ (passed-as (f .repeated-at .ensures) (e .enum-told .given .1))
-    (op-judged _ (sym (not-false _ (c .before .if1 .left)) ∙ w .wide-ok .ensures) (w .before .read-op .ensures))
+    (op-judged _ (sym (c .before .if1 .left) ∙ w .wide-wrong .ensures) (w .before .read-op .ensures))
 
 pub next-op-spec : {M : Type 1} → statement M
 next-op-spec =
@@ -65,7 +72,8 @@ next-op-spec =
     returns
     enum-told
     read-op-requires
-    wide-ok-requires
+    wide-wrong-requires
+    add-t13
     returns-2
     narrow-requires
     returns-3)

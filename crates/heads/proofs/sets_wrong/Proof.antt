@@ -7,13 +7,13 @@ use native.Mathlib.Omega.{arith}
 use borrow.Author.Tests.{not-true, not-false}
 use denote.Ref.{now}
 use Rattle.rules.specs.Bytes.{num32, words}
-use Rattle.rules.specs.Judge.{setOk, eachSetOk}
-use Rattle.heads.specs.WordLaws.{sets-all, sets-next, sets-none}
-use Rattle.heads.proofs.sets_ok.Statement.{statement}
-use Rattle.heads.proofs.sets_ok.Tie as tie
+use Rattle.rules.specs.Judge.{wrongFrom, setOk, setRanges, setsWrong}
+use Rattle.heads.specs.WordLaws.{sets-all, sets-here, sets-next, sets-none}
+use Rattle.heads.proofs.sets_wrong.Statement.{statement}
+use Rattle.heads.proofs.sets_wrong.Tie as tie
 
 abbrev Inv-loop : tie.InvT-loop
-Inv-loop s modes n m₀ m = (m ≤ modes + 1) × (eachSetOk modes (words s 14 (modes + 1)) ≡ eachSetOk modes (words s (14 + 4 * m) (modes + 1 - m)))
+Inv-loop s modes n m₀ m = (m ≤ modes + 1) × (setsWrong modes (words s 14 (modes + 1)) ≡ wrongFrom (3 + 4 * m) (setRanges modes (words s (14 + 4 * m) (modes + 1 - m))))
 
 abbrev μ-loop : tie.MeasureT-loop
 μ-loop s modes n m₀ m = n - m
@@ -39,6 +39,12 @@ cast-is-set-of c = omega arith
 is-set-of-requires : tie.Need-is-set-of-requires Inv-loop μ-loop
 is-set-of-requires c κs = omega arith
 
+mul-result : tie.Need-mul-result Inv-loop μ-loop
+mul-result c = omega arith
+
+add-result : tie.Need-add-result Inv-loop μ-loop
+add-result c = omega arith
+
 returns : tie.Need-returns Inv-loop μ-loop
 returns c =
     let i = c .before .before .before .before in
@@ -46,7 +52,7 @@ returns c =
     let e : setOk (a .modes) (num32 (now (a .s)) (14 + 4 * i .loop .m)) ≡ false =
     ap (setOk (a .modes)) (sym (c .before .before .be32 .ensures)) ∙ sym (c .before .is-set-of .ensures) ∙ not-true _ (c .if1 .taken)
     in
-    sym (i .loop .inv .1 ∙ sets-next (now (a .s)) (a .modes) 14 (a .modes + 1) (i .loop .m) (omega arith) ∙ rw e)
+    sym (i .loop .inv .1 ∙ sets-here (now (a .s)) (a .modes) 14 (a .modes + 1) (i .loop .m) (omega arith) e)
 
 add-m : tie.Need-add-m Inv-loop μ-loop
 add-m c = omega arith
@@ -61,16 +67,16 @@ loop-again c =
     let e : setOk (a .modes) (num32 (now (a .s)) (14 + 4 * i .loop .m)) ≡ true =
     ap (setOk (a .modes)) (sym (c .before .before .be32 .ensures)) ∙ sym (c .before .is-set-of .ensures) ∙ not-false _ (c .if1 .left)
     in
-    (omega arith, i .loop .inv .1 ∙ sets-next (now (a .s)) (a .modes) 14 (a .modes + 1) (i .loop .m) (omega arith) ∙ rw e)
+    (omega arith, i .loop .inv .1 ∙ sets-next (now (a .s)) (a .modes) 14 (a .modes + 1) (i .loop .m) (omega arith) e)
 
 returns-2 : tie.Need-returns-2 Inv-loop μ-loop
 returns-2 c =
     let i = c .before in
     let a = i .before .before .args in
-    sym (i .loop .inv .1 ∙ sets-none (now (a .s)) (a .modes) (14 + 4 * i .loop .m) (a .modes + 1) (i .loop .m) (omega arith))
+    sym (i .loop .inv .1 ∙ sets-none (now (a .s)) (a .modes) (14 + 4 * i .loop .m) (a .modes + 1) (i .loop .m) (3 + 4 * i .loop .m) (omega arith))
 
-pub sets-ok-spec : {M : Type 1} → statement M
-sets-ok-spec =
+pub sets-wrong-spec : {M : Type 1} → statement M
+sets-wrong-spec =
     tie.close
     (tie.spec
     Inv-loop
@@ -82,6 +88,8 @@ sets-ok-spec =
     be32-requires
     cast-is-set-of
     is-set-of-requires
+    mul-result
+    add-result
     returns
     add-m
     loop-less

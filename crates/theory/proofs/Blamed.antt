@@ -1,0 +1,319 @@
+-- Document 02, No. 7: RANGE names the first wrong number. Every number before it in layout order is in its range, and it is not; of a table's
+-- bytes, of a table handed over as numbers, and of a reply's bytes.
+-- Assumes nothing.
+use Prim.Native.Nat.{ℕ, zero, suc, _+_, _*_, _<_, _≤_}
+use mathlib.Core.Path.{_≡_, refl, sym, ap, subst, _∙_}
+use mathlib.Core.Bool.{Bool, true, false, not, cond}
+use mathlib.Core.List.{List, [], _∷_}
+use native.Mathlib.Omega.{arith}
+use lib.Dec.{leb, ltb, eqb}
+use lib.ListN.{length, getD, drop}
+use lib.Seq.{drop-drop}
+use borrow.Author.Tests.{eqb-false, lt-ltb, not-true}
+use Rattle.rules.specs.Table.{Op, Table}
+use Rattle.rules.specs.Rows.{Row, ticks}
+use Rattle.rules.specs.Verdicts.{Verdict, accepted, refused, SHORT, ORDER, SIZE, RANGE, MANY, CLASH, RACE, Test, refuseIf, _then_, onwards, more}
+use Rattle.rules.specs.Bytes.{num8, num16, opAt, rowAt}
+use Rattle.rules.specs.Judge.{needed, header, due, sized, complete, notMany, ranged, fieldTest, repeatTest, fieldsFrom, Number, firstWrong, lenRanges, lenWrong, countRanges, countsWrong, setRanges, setsWrong, opRanges, opWrong, clashes, races, pairsTest, judgeWhole, headOf, withOps, opsPlace, headTest, opsFrom, judge, Numbers, opOfNumbers, headOfNumbers, numbersTest, opsOfNumbers, judgeNumbers, rowRanges, rowWrong, rowsFrom, judgeReply}
+use Rattle.theory.specs.Numbers.{opAmong}
+use Rattle.theory.specs.Blamed.{bytesBefore, among, FirstFrom, Names, Blames, length-wrong, count-wrong, set-wrong, step-wrong, ReplyBlames, period-wrong, row-wrong}
+use Rattle.theory.proofs.Says.{clash-bool}
+use Rattle.theory.proofs.Verdicts.{never-refused, passed, fault-refused, then-first, then-refused, onwards-refused, more-refused}
+use Rattle.theory.proofs.Ranges.{first-told, range-passed}
+use Rattle.theory.proofs.Judging.{both, field-row, repeat-row, field-passed, repeat-passed, fields-end, fields-next, pairs-refused, whole-row, head-row, head-ok, judge-row, numbers-end, numbers-next, numbers-row, numbers-ok, judgeNumbers-row}
+use Rattle.theory.proofs.Replies.{reply-row}
+
+-- ---- tests that are not of ranges
+
+-- what is not refused for a range
+abbrev pub Other : {A : Type 0} → Verdict A → Type 0
+Other v = (a b : ℕ) → v ≡ refused RANGE a b → ⊥
+
+pub other-if : (fault : Bool) (n a b : ℕ) → (n ≡ RANGE → ⊥) → Other (refuseIf fault n a b)
+other-if fault n a b h c d e = h (sym (fault-refused fault e .1))
+
+module _ {A B : Type 0} where
+  -- RANGE of a row is not that of such a test
+  behind : (v : Verdict A) (w : Verdict B) {a b : ℕ} → Other v → (v then w) ≡ refused RANGE a b
+      → (x : A) × (v ≡ accepted x) × (w ≡ refused RANGE a b)
+  behind v w {a} {b} other e = then-refused v w e (λ h. absurd (other a b h)) (λ x h r. (x, h, r))
+
+  pub other-then : (v : Verdict A) (w : Verdict B) → Other v → Other w → Other (v then w)
+  other-then v w f g a b e = let (_, _, h) = behind v w f e in g a b h
+
+-- what is accepted is no refusal
+pub other-accepted : {A : Type 0} (x : A) → Other (accepted x)
+other-accepted x a b e = never-refused (sym e)
+
+module _ (s : List ℕ) (at : ℕ) where
+  pub needed-other : Other (needed s at)
+  unfolding needed
+  needed-other = other-if (leb (length s) at) ORDER at 0 (λ e. omega arith)
+
+  pub header-other : Other (header s at)
+  unfolding header
+  header-other = other-if (ltb (length s) (at + 3)) SHORT at 0 (λ e. omega arith)
+
+  pub due-other : (tag : ℕ) → Other (due s at tag)
+  unfolding due
+  due-other tag = other-if (not (eqb (num8 s at) tag)) ORDER at 0 (λ e. omega arith)
+
+  pub sized-other : (size : ℕ) → Other (sized s at size)
+  unfolding sized
+  sized-other size = other-if (not (eqb (num16 s (at + 1)) size)) SIZE at 0 (λ e. omega arith)
+
+  pub complete-other : (size : ℕ) → Other (complete s at size)
+  unfolding complete
+  complete-other size = other-if (ltb (length s) (at + 3 + size)) SHORT at 0 (λ e. omega arith)
+
+pub many-other : (at left : ℕ) → Other (notMany at left)
+unfolding notMany
+many-other at left = other-if (eqb left 0) MANY at 0 (λ e. omega arith)
+
+-- CLASH and RACE have numbers of their own
+pub whole-other : (T : Table) → Other (judgeWhole T)
+whole-other T a b e =
+    other-then (pairsTest clashes CLASH T) (pairsTest races RACE T then accepted T)
+    (λ i j h. let same = pairs-refused clashes CLASH T RANGE i j h .0 in omega arith)
+    (other-then (pairsTest races RACE T) (accepted T) (λ i j h. let same = pairs-refused races RACE T RANGE i j h .0 in omega arith) (other-accepted T))
+    a b (sym (whole-row T) ∙ e)
+
+-- ---- one field
+
+-- a test of ranges names the field's place and its first wrong number
+ranged-names : (ns : List Number) (at : ℕ) {a b : ℕ} → ranged (firstWrong ns) at ≡ refused RANGE a b → (a ≡ at) × Names ns a b
+unfolding ranged firstWrong
+ranged-names ns at e =
+    let (fault, _, place, offset) = fault-refused _ e in
+    let wrong = eqb-false (firstWrong ns) 0 (not-true _ fault) in
+    let x = first-told 3 ns (firstWrong ns) (omega (arith, wrong)) refl in
+    (sym place, record { which = x .which; there = x .there; begins = omega (arith, x .begins); wrong = x .wrong; before = x .before })
+
+module _ (s : List ℕ) (at tag size wrong : ℕ) {a b : ℕ} where
+  value-blames : (sized s at size then complete s at size then ranged wrong at) ≡ refused RANGE a b → ranged wrong at ≡ refused RANGE a b
+  value-blames e =
+      let (_, _, e1) = behind _ _ (sized-other s at size) e in
+      let (_, _, e2) = behind _ _ (complete-other s at size) e1 in
+      e2
+
+  field-blames : fieldTest s at tag size wrong ≡ refused RANGE a b → ranged wrong at ≡ refused RANGE a b
+  field-blames e =
+      let (_, _, e1) = behind _ _ (needed-other s at) (sym (field-row s at tag size wrong) ∙ e) in
+      let (_, _, e2) = behind _ _ (header-other s at) e1 in
+      let (_, _, e3) = behind _ _ (due-other s at tag) e2 in
+      value-blames e3
+
+  repeat-blames : (left : ℕ) → repeatTest s at left tag size wrong ≡ refused RANGE a b → (0 < left) × (ranged wrong at ≡ refused RANGE a b)
+  unfolding notMany
+  repeat-blames left e =
+      let (_, _, e1) = behind _ _ (header-other s at) (sym (repeat-row s at tag size wrong left) ∙ e) in
+      let (_, _, e2) = behind _ _ (due-other s at tag) e1 in
+      let (_, may, e3) = behind _ _ (many-other at left) e2 in
+      (omega (arith, eqb-false left 0 (passed _ MANY at 0 may)), value-blames e3)
+
+-- ---- what comes repeatedly, each `unit` places behind the one before, the first at a place
+
+-- one of at most `left` is refused for a range, and in those before it no number is wrong
+record FirstRange {A : Type 0} (wrong : A → ℕ) (value : ℕ → A) (unit left at a b : ℕ) : Type 0 where
+  which : ℕ
+  few : which < left
+  before : (j : ℕ) → j < which → wrong (value j) ≡ 0
+  here : ranged (wrong (value which)) (at + unit * which) ≡ refused RANGE a b
+
+module _ {A : Type 0} (wrong : A → ℕ) (value : ℕ → A) (unit left at a b : ℕ) where
+  -- the first, and one behind a first that passes
+  range-here : ranged (wrong (value 0)) at ≡ refused RANGE a b → FirstRange wrong value unit (suc left) at a b
+  range-here e =
+      let place : at ≡ at + unit * 0 = omega arith in
+      record { which = 0; few = omega arith; before = λ j h. absurd (omega arith); here = subst (λ (p : ℕ). ranged (wrong (value 0)) p ≡ refused RANGE a b) place e }
+
+  range-more : (next : ℕ → A) (place : ℕ) → ((j : ℕ) → next j ≡ value (suc j)) → place ≡ at + unit → wrong (value 0) ≡ 0
+      → FirstRange wrong next unit left place a b → FirstRange wrong value unit (suc left) at a b
+  range-more next place same e fine x =
+      let there : place + unit * x .which ≡ at + unit * suc (x .which) = omega arith in
+      record {
+        which = suc (x .which);
+        few = omega (arith, x .few);
+        before = earlier;
+        here =
+            subst (λ (p : ℕ). ranged (wrong (value (suc (x .which)))) p ≡ refused RANGE a b) there
+            (subst (λ (v : A). ranged (wrong v) (place + unit * x .which) ≡ refused RANGE a b) (same (x .which)) (x .here));
+      }
+    where
+      earlier : (j : ℕ) → j < suc (x .which) → wrong (value j) ≡ 0
+      earlier zero h = fine
+      earlier (suc j) h = ap wrong (sym (same j)) ∙ x .before j (omega arith)
+
+-- repeated fields
+module _ {A : Type 0} (tag size : ℕ) (wrong : A → ℕ) (value : List ℕ → ℕ → A) (s : List ℕ) {a b : ℕ} where
+  fields-blames : (left at : ℕ) → fieldsFrom tag size wrong value s left at ≡ refused RANGE a b
+      → FirstRange wrong (λ j. value s (at + (3 + size) * j)) (3 + size) left at a b
+  fields-blames zero at e =
+      both (leb (length s) at) (sym (fields-end tag size wrong value s at) ∙ e)
+      (λ _ x. never-refused {x = []} (sym x))
+      (λ _ x.
+      then-refused _ _ x
+      (λ h. let (more, _) = repeat-blames s at tag size _ 0 h in absurd (omega arith))
+      (λ _ _ h. never-refused {x = []} (sym h)))
+  fields-blames (suc left) at e =
+      both (leb (length s) at) (sym (fields-next tag size wrong value s left at) ∙ e)
+      (λ _ x. never-refused {x = []} (sym x))
+      (λ _ x.
+      then-refused _ _ x
+      (λ h.
+      range-here wrong values (3 + size) left at a b
+      (subst (λ (v : A). ranged (wrong v) at ≡ refused RANGE a b) (sym first) (repeat-blames s at tag size _ (suc left) h .1)))
+      (λ _ h m.
+      range-more wrong values (3 + size) left at a b (λ j. value s (at + 3 + size + (3 + size) * j)) (at + 3 + size)
+      (λ j. ap (value s) (omega arith)) (omega arith)
+      (ap wrong first ∙ repeat-passed s at tag size _ (suc left) h .2)
+      (fields-blames left (at + 3 + size) (more-refused _ _ m))))
+    where
+      values : ℕ → A
+      values j = value s (at + (3 + size) * j)
+
+      first : values 0 ≡ value s at
+      first = ap (value s) (omega arith)
+
+-- the numbers of operations
+module _ (T : Table) {a b : ℕ} where
+  ops-blames : (ns : List ℕ) (left at : ℕ) → opsOfNumbers T ns left at ≡ refused RANGE a b → FirstRange (opWrong T) (opAmong ns) 21 left at a b
+  ops-blames ns zero at e =
+      both (eqb (length ns) 0) (sym (numbers-end T ns at) ∙ e)
+      (λ _ x. never-refused {x = []} (sym x))
+      (λ _ x. absurd (other-then (notMany at 0) (accepted []) (many-other at 0) (other-accepted []) a b x))
+  ops-blames ns (suc left) at e =
+      both (eqb (length ns) 0) (sym (numbers-next T ns left at) ∙ e)
+      (λ _ x. never-refused {x = []} (sym x))
+      (λ _ x.
+      let (_, _, e1) = behind _ _ (other-if (ltb (length ns) 6) SHORT at 0 (λ h. omega arith)) x in
+      then-refused _ _ e1
+      (λ h. range-here (opWrong T) (opAmong ns) 21 left at a b h)
+      (λ _ h m.
+      range-more (opWrong T) (opAmong ns) 21 left at a b (opAmong (drop 6 ns)) (at + 21) same refl (range-passed _ at h)
+      (ops-blames (drop 6 ns) left (at + 21) (more-refused _ _ m))))
+    where
+      same : (j : ℕ) → opAmong (drop 6 ns) j ≡ opAmong ns (suc j)
+      same j =
+          let place : 6 + 6 * j ≡ 6 * suc j = omega arith in
+          ap opOfNumbers (drop-drop (6 * j) 6 ns ∙ ap (λ (i : ℕ). drop i ns) place)
+
+-- ---- what stands before the operations, and an operation
+
+module _ (H : Table) (step : ℕ → Op) {a b : ℕ} where
+  len-blames : ranged (lenWrong (H .len)) 0 ≡ refused RANGE a b → Blames H step a b
+  unfolding lenWrong
+  len-blames e = let (place, names) = ranged-names (lenRanges (H .len)) 0 e in length-wrong place names
+
+  counts-blames : lenWrong (H .len) ≡ 0 → ranged (countsWrong (H .boards) (H .cells) (H .modes)) 5 ≡ refused RANGE a b → Blames H step a b
+  unfolding countsWrong
+  counts-blames len e = let (place, names) = ranged-names (countRanges (H .boards) (H .cells) (H .modes)) 5 e in count-wrong len place names
+
+  module _ (len : lenWrong (H .len) ≡ 0) (counts : countsWrong (H .boards) (H .cells) (H .modes) ≡ 0) where
+    sets-blames : ranged (setsWrong (H .modes) (H .first ∷ H .follow)) 11 ≡ refused RANGE a b → Blames H step a b
+    unfolding setsWrong
+    sets-blames e = let (place, names) = ranged-names (setRanges (H .modes) (H .first ∷ H .follow)) 11 e in set-wrong len counts place names
+
+    step-blames : setsWrong (H .modes) (H .first ∷ H .follow) ≡ 0 → FirstRange (opWrong H) step 21 32 (opsPlace (H .modes)) a b → Blames H step a b
+    unfolding opWrong
+    step-blames sets x =
+        let (place, names) = ranged-names (opRanges H (step (x .which))) (opsPlace (H .modes) + 21 * x .which) (x .here) in
+        step-wrong len counts sets (x .which) (x .few) (x .before) place names
+
+-- ---- a table's bytes
+
+-- the operation whose field comes as number k
+abbrev pub stepAt : List ℕ → ℕ → Op
+stepAt s k = opAt s (opsPlace (headOf s .modes) + 21 * k)
+
+module _ (s : List ℕ) {a b : ℕ} where
+  head-blames : headTest s ≡ refused RANGE a b → Blames (headOf s) (stepAt s) a b
+  head-blames e =
+      then-refused _ _ (sym (head-row s) ∙ e)
+      (λ h. len-blames (headOf s) (stepAt s) (field-blames s 0 1 2 _ h))
+      (λ _ h1 e1.
+      let len = field-passed s 0 1 2 _ h1 .1 in
+      then-refused _ _ e1
+      (λ h. counts-blames (headOf s) (stepAt s) len (field-blames s 5 2 3 _ h))
+      (λ _ h2 e2.
+      then-refused _ _ e2
+      (λ h. sets-blames (headOf s) (stepAt s) len (field-passed s 5 2 3 _ h2 .1) (field-blames s 11 3 _ _ h))
+      (λ _ _ e3. absurd (needed-other s (opsPlace (headOf s .modes)) a b e3))))
+
+  -- "the offset of the first byte of the first wrong number, in layout order"
+  pub judge-blames : judge s ≡ refused RANGE a b → Blames (headOf s) (stepAt s) a b
+  unfolding opsFrom
+  judge-blames e =
+      then-refused _ _ (sym (judge-row s) ∙ e)
+      head-blames
+      (λ _ h e1.
+      let ok = head-ok s h .0 in
+      onwards-refused _ _ e1
+      (λ r. step-blames (headOf s) (stepAt s) (ok .len) (ok .counts) (ok .sets) (fields-blames 4 18 (opWrong (headOf s)) opAt s 32 _ r))
+      (λ os _ r. absurd (whole-other (withOps (headOf s) os) a b r)))
+
+-- ---- a table handed over as numbers
+
+module _ (N : Numbers) {a b : ℕ} where
+  first-blames : numbersTest N ≡ refused RANGE a b → Blames (headOfNumbers N) (opAmong (N .ops)) a b
+  first-blames e =
+      then-refused _ _ (sym (numbers-row N) ∙ e)
+      (len-blames (headOfNumbers N) (opAmong (N .ops)))
+      (λ _ h1 e1.
+      let len = range-passed _ 0 h1 in
+      then-refused _ _ e1
+      (counts-blames (headOfNumbers N) (opAmong (N .ops)) len)
+      (λ _ h2 e2.
+      let (_, _, e3) = behind _ _ (other-if (not (eqb (length (N .follow)) (N .modes))) SIZE 11 0 (λ h. omega arith)) e2 in
+      then-refused _ _ e3
+      (sets-blames (headOfNumbers N) (opAmong (N .ops)) len (range-passed _ 5 h2))
+      (λ _ _ e4. absurd (other-if (eqb (length (N .ops)) 0) ORDER (opsPlace (N .modes)) 0 (λ h. omega arith) a b e4))))
+
+  pub numbers-blames : judgeNumbers N ≡ refused RANGE a b → Blames (headOfNumbers N) (opAmong (N .ops)) a b
+  numbers-blames e =
+      then-refused _ _ (sym (judgeNumbers-row N) ∙ e)
+      first-blames
+      (λ _ h e1.
+      let ok = numbers-ok N h .0 in
+      onwards-refused _ _ e1
+      (λ r. step-blames (headOfNumbers N) (opAmong (N .ops)) (ok .len) (ok .counts) (ok .sets) (ops-blames (headOfNumbers N) (N .ops) 32 _ r))
+      (λ os _ r. absurd (whole-other (withOps (headOfNumbers N) os) a b r)))
+
+-- ---- a reply's bytes
+
+-- the row whose field comes as number k
+abbrev pub rowThere : List ℕ → ℕ → Row
+rowThere s k = rowAt s (5 + 7 * k)
+
+module _ (s : List ℕ) {a b : ℕ} where
+  period-blames : ranged (lenWrong (num16 s 3)) 0 ≡ refused RANGE a b → ReplyBlames (ticks (num16 s 3)) (rowThere s) a b
+  unfolding lenWrong
+  period-blames e = let (place, names) = ranged-names (lenRanges (num16 s 3)) 0 e in period-wrong place names
+
+  rows-blame : lenWrong (num16 s 3) ≡ 0 → rowsFrom (ticks (num16 s 3)) s 32 5 ≡ refused RANGE a b → ReplyBlames (ticks (num16 s 3)) (rowThere s) a b
+  unfolding rowsFrom rowWrong
+  rows-blame len e =
+      let x = fields-blames 18 4 (rowWrong (ticks (num16 s 3))) rowAt s 32 5 e in
+      let (place, names) = ranged-names (rowRanges (ticks (num16 s 3)) (rowThere s (x .which))) (5 + 7 * x .which) (x .here) in
+      row-wrong len (x .which) (x .few) (x .before) place names
+
+  pub reply-blames : judgeReply s ≡ refused RANGE a b → ReplyBlames (ticks (num16 s 3)) (rowThere s) a b
+  reply-blames e =
+      then-refused _ _ (sym (reply-row s) ∙ e)
+      (λ h.
+      then-refused _ _ h
+      (λ f. period-blames (field-blames s 0 17 2 _ f))
+      (λ _ _ n. absurd (needed-other s 5 a b n)))
+      (λ _ h e1.
+      onwards-refused _ _ e1
+      (rows-blame (field-passed s 0 17 2 _ (then-first _ _ h .1) .1))
+      (λ rs _ r. never-refused (sym r)))
+
+-- ---- "an operation that ends after p blames its duration": in bytes no start is ever blamed, whatever it is
+pub no-start-blamed : (s : List ℕ) → ((i : ℕ) → getD s i 0 < 256) → (T : Table) (at a b : ℕ) → Names (opRanges T (opAt s at)) a b → a + 5 ≤ b
+unfolding bytesBefore
+no-start-blamed s bytes T at a b x = go (x .which) (x .begins) (x .wrong)
+  where
+    go : (k : ℕ) → b ≡ a + 3 + bytesBefore k (opRanges T (opAt s at)) → among (opRanges T (opAt s at)) k .ok ≡ false → a + 5 ≤ b
+    go zero e wrong = clash-bool (lt-ltb (opAt s at .start) 65536 (omega (arith, bytes (at + 3), bytes (at + 3 + 1)))) wrong
+    go (suc k) e wrong = omega arith

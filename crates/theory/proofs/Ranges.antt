@@ -1,0 +1,149 @@
+-- The first wrong number of a field: none is wrong exactly where each is in its range, and where one is, the first begins where it says.
+-- Assumes nothing.
+use Prim.Native.Nat.{ℕ, zero, suc, _+_, _*_, _<_, _≤_}
+use mathlib.Core.Path.{_≡_, refl, sym, ap, _∙_}
+use mathlib.Core.Bool.{true, false, not}
+use mathlib.Core.List.{List, [], _∷_}
+use mathlib.Core.Logic.{_↔_}
+use native.Mathlib.Omega.{arith}
+use lib.Dec.{eqb}
+use lib.ListN.{length}
+use borrow.Author.Tests.{eq-eqb, ne-eqb, eqb-true, not-false}
+use Rattle.rules.specs.Table.{Op, Table}
+use Rattle.rules.specs.Rows.{Ticks, Row}
+use Rattle.rules.specs.Verdicts.{accepted, refused, RANGE}
+use Rattle.rules.specs.Judge.{Number, wrongFrom, firstWrong, ranged, lenRanges, lenWrong, countRanges, countsWrong, setRanges, setsWrong, opRanges, opWrong, rowRanges, rowWrong}
+use Rattle.rules.specs.Bench.{All}
+use Rattle.theory.specs.Blamed.{bytesBefore, among, FirstFrom}
+use Rattle.theory.proofs.Says.{Known, holds, fails, known}
+use Rattle.theory.proofs.Verdicts.{passes, passed, refuses}
+
+-- ---- one number after the other
+
+module _ (place : ℕ) (n : Number) (ns : List Number) where
+  pub wrong-here : n .ok ≡ false → wrongFrom place (n ∷ ns) ≡ place
+  unfolding wrongFrom
+  wrong-here e = rw e
+
+  pub wrong-later : n .ok ≡ true → wrongFrom place (n ∷ ns) ≡ wrongFrom (place + n .bytes) ns
+  unfolding wrongFrom
+  wrong-later e = rw e
+
+-- a number in its range
+abbrev pub Fine : Number → Type 0
+Fine n = n .ok ≡ true
+
+-- none is wrong exactly where each is in its range; no number begins at 0
+pub none-from : (place : ℕ) (ns : List Number) → 0 < place → (wrongFrom place ns ≡ 0) ↔ All Fine ns
+unfolding wrongFrom All
+none-from place [] some = (λ e. tt, λ x. refl)
+none-from place (n ∷ ns) some =
+    let rest = none-from (place + n .bytes) ns (omega arith) in
+    (λ e. there rest e (known (n .ok)), λ x. wrong-later place n ns (x .0) ∙ rest .1 (x .1))
+  where
+    there : (wrongFrom (place + n .bytes) ns ≡ 0) ↔ All Fine ns → wrongFrom place (n ∷ ns) ≡ 0 → Known (n .ok) → Fine n × All Fine ns
+    there rest e (holds h) = (h, rest .0 (sym (wrong-later place n ns h) ∙ e))
+    there rest e (fails h) = absurd (omega (arith, e, wrong-here place n ns h))
+
+pub none-wrong : (ns : List Number) → (firstWrong ns ≡ 0) ↔ All Fine ns
+unfolding firstWrong
+none-wrong ns = none-from 3 ns (omega arith)
+
+-- ---- the first that is wrong
+
+-- where one is told, it is the first
+pub first-told : (place : ℕ) (ns : List Number) (w : ℕ) → 0 < w → wrongFrom place ns ≡ w → FirstFrom place ns w
+unfolding wrongFrom bytesBefore
+first-told place [] w some e = absurd (omega arith)
+first-told place (n ∷ ns) w some e = go (known (n .ok)) (first-told (place + n .bytes) ns w some)
+  where
+    go : Known (n .ok) → (wrongFrom (place + n .bytes) ns ≡ w → FirstFrom (place + n .bytes) ns w) → FirstFrom place (n ∷ ns) w
+    go (fails h) rest =
+        record {
+          which = 0;
+          there = omega arith;
+          begins = omega (arith, e, wrong-here place n ns h);
+          wrong = h;
+          before = λ j l. absurd (omega arith);
+        }
+    go (holds h) rest =
+        let x = rest (sym (wrong-later place n ns h) ∙ e) in
+        record {
+          which = suc (x .which);
+          there = omega (arith, x .there);
+          begins = omega (arith, x .begins);
+          wrong = x .wrong;
+          before = earlier x;
+        }
+      where
+        earlier : (x : FirstFrom (place + n .bytes) ns w) (j : ℕ) → j < suc (x .which) → among (n ∷ ns) j .ok ≡ true
+        earlier x zero l = h
+        earlier x (suc j) l = x .before j (omega arith)
+
+-- and the first is told
+told-at : (k place : ℕ) (ns : List Number) (w : ℕ) → k < length ns → w ≡ place + bytesBefore k ns → among ns k .ok ≡ false
+    → ((j : ℕ) → j < k → among ns j .ok ≡ true) → wrongFrom place ns ≡ w
+unfolding bytesBefore
+told-at k place [] w there begins wrong before = absurd (omega arith)
+told-at zero place (n ∷ ns) w there begins wrong before = wrong-here place n ns wrong ∙ omega arith
+told-at (suc k) place (n ∷ ns) w there begins wrong before =
+    wrong-later place n ns (before 0 (omega arith))
+    ∙ told-at k (place + n .bytes) ns w (omega arith) (omega arith) wrong (λ j l. before (suc j) (omega arith))
+
+pub told-first : (place : ℕ) (ns : List Number) (w : ℕ) → FirstFrom place ns w → wrongFrom place ns ≡ w
+told-first place ns w x = told-at (x .which) place ns w (x .there) (x .begins) (x .wrong) (x .before)
+
+-- it begins before the numbers end
+wrong-within : (place : ℕ) (ns : List Number) → wrongFrom place ns ≤ place + bytesBefore (length ns) ns
+unfolding wrongFrom bytesBefore
+wrong-within place [] = omega arith
+wrong-within place (n ∷ ns) = go (known (n .ok)) (wrong-within (place + n .bytes) ns)
+  where
+    go : Known (n .ok) → wrongFrom (place + n .bytes) ns ≤ place + n .bytes + bytesBefore (length ns) ns
+        → wrongFrom place (n ∷ ns) ≤ place + bytesBefore (length (n ∷ ns)) (n ∷ ns)
+    go (holds h) rest = omega (arith, wrong-later place n ns h)
+    go (fails h) rest = omega (arith, wrong-here place n ns h)
+
+-- so a wrong number begins inside its field
+
+pub len-within : (p : ℕ) → lenWrong p ≤ 5
+unfolding lenWrong bytesBefore
+len-within p = wrong-within 3 (lenRanges p)
+
+pub counts-within : (boards cells modes : ℕ) → countsWrong boards cells modes ≤ 6
+unfolding countsWrong bytesBefore
+counts-within boards cells modes = wrong-within 3 (countRanges boards cells modes)
+
+-- each set has four bytes
+sets-bytes : (n : ℕ) (ss : List ℕ) → bytesBefore (length (setRanges n ss)) (setRanges n ss) ≡ 4 * length ss
+unfolding bytesBefore
+sets-bytes n [] = refl
+sets-bytes n (s ∷ ss) = omega (arith, sets-bytes n ss)
+
+pub sets-within : (n : ℕ) (ss : List ℕ) → setsWrong n ss ≤ 3 + 4 * length ss
+unfolding setsWrong firstWrong
+sets-within n ss = omega (arith, wrong-within 3 (setRanges n ss), sets-bytes n ss)
+
+pub op-within : (T : Table) (o : Op) → opWrong T o ≤ 21
+unfolding opWrong bytesBefore
+op-within T o = wrong-within 3 (opRanges T o)
+
+pub row-within : (q : Ticks) (r : Row) → rowWrong q r ≤ 7
+unfolding rowWrong bytesBefore
+row-within q r = wrong-within 3 (rowRanges q r)
+
+-- ---- the range test
+
+-- a field that passes has no wrong number, and one that has none passes
+pub range-passed : (wrong at : ℕ) → ranged wrong at ≡ accepted tt → wrong ≡ 0
+unfolding ranged
+range-passed wrong at e = eqb-true wrong 0 (not-false (eqb wrong 0) (passed _ RANGE at _ e))
+
+pub ranged-yes : (wrong at : ℕ) → wrong ≡ 0 → ranged wrong at ≡ accepted tt
+unfolding ranged
+ranged-yes wrong at h = passes _ RANGE at _ (ap not (eq-eqb wrong 0 h))
+
+-- one that has one is refused, with the field's place and the number's
+pub ranged-no : (wrong at : ℕ) → (wrong ≡ 0 → ⊥) → ranged wrong at ≡ refused RANGE at (at + wrong)
+unfolding ranged
+ranged-no wrong at h = refuses _ RANGE at _ (ap not (ne-eqb wrong 0 h))

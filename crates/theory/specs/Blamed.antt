@@ -1,0 +1,50 @@
+-- Document 02, No. 7: which number a refusal for its range names. "In RANGE, let b be the offset of the first byte of the first wrong number, in
+-- layout order".
+-- Assumes nothing.
+use Prim.Native.Nat.{ℕ, zero, suc, _+_, _*_, _<_}
+use mathlib.Core.Path.{_≡_}
+use mathlib.Core.Bool.{true, false}
+use mathlib.Core.List.{List, [], _∷_}
+use lib.ListN.{length, getD}
+use Rattle.rules.specs.Table.{Op, Table}
+use Rattle.rules.specs.Rows.{Ticks, Row}
+use Rattle.rules.specs.Judge.{Number, number, lenRanges, lenWrong, countRanges, countsWrong, setRanges, setsWrong, opRanges, opWrong, rowRanges, rowWrong, opsPlace}
+
+-- how many bytes the numbers before number k have
+unfoldable pub bytesBefore : ℕ → List Number → ℕ
+bytesBefore zero ns = 0
+bytesBefore (suc k) [] = 0
+bytesBefore (suc k) (n ∷ ns) = n .bytes + bytesBefore k ns
+
+-- number k of a list; past its end stands nothing that is wrong
+abbrev pub among : List Number → ℕ → Number
+among ns k = getD ns k (number 0 true)
+
+-- of the numbers, the first of which begins at a place, one begins at w and is wrong, and each before it is in its range
+pub record FirstFrom (place : ℕ) (ns : List Number) (w : ℕ) : Type 0 where
+  pub which : ℕ
+  pub there : which < length ns
+  pub begins : w ≡ place + bytesBefore which ns
+  pub wrong : among ns which .ok ≡ false
+  pub before : (j : ℕ) → j < which → among ns j .ok ≡ true
+
+-- b is the offset of the first wrong number of the field at a, whose numbers stand behind its tag and its length
+abbrev pub Names : List Number → ℕ → ℕ → Type 0
+Names ns a b = FirstFrom (a + 3) ns b
+
+-- what RANGE says of a table, by what stands before its operations and by each operation: the field at a has a wrong number, b is where the
+-- first one begins, and every number of the fields before that one is in its range
+pub data Blames (H : Table) (step : ℕ → Op) (a b : ℕ) : Type 0 where
+  length-wrong : a ≡ 0 → Names (lenRanges (H .len)) a b → Blames H step a b
+  count-wrong : lenWrong (H .len) ≡ 0 → a ≡ 5 → Names (countRanges (H .boards) (H .cells) (H .modes)) a b → Blames H step a b
+  set-wrong : lenWrong (H .len) ≡ 0 → countsWrong (H .boards) (H .cells) (H .modes) ≡ 0 → a ≡ 11
+      → Names (setRanges (H .modes) (H .first ∷ H .follow)) a b → Blames H step a b
+  step-wrong : lenWrong (H .len) ≡ 0 → countsWrong (H .boards) (H .cells) (H .modes) ≡ 0 → setsWrong (H .modes) (H .first ∷ H .follow) ≡ 0
+      → (k : ℕ) → k < 32 → ((j : ℕ) → j < k → opWrong H (step j) ≡ 0) → a ≡ opsPlace (H .modes) + 21 * k
+      → Names (opRanges H (step k)) a b → Blames H step a b
+
+-- likewise of a reply, by its period and by each row
+pub data ReplyBlames (q : Ticks) (row : ℕ → Row) (a b : ℕ) : Type 0 where
+  period-wrong : a ≡ 0 → Names (lenRanges (q .number)) a b → ReplyBlames q row a b
+  row-wrong : lenWrong (q .number) ≡ 0 → (k : ℕ) → k < 32 → ((j : ℕ) → j < k → rowWrong q (row j) ≡ 0) → a ≡ 5 + 7 * k
+      → Names (rowRanges q (row k)) a b → ReplyBlames q row a b
