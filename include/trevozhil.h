@@ -10,13 +10,25 @@
  *   2    ORDER  a tag that is not due, or the input ends with a needed   the offset where it was due, 0
  *               field missing
  *   3    SIZE   a length that is not the tag's length                    the field's offset, 0
- *   4    RANGE  a number or set outside its range                        the field's offset, 0
+ *   4    RANGE  a number or set outside its range                        the field's offset, the wrong number's offset
  *   5    MANY   a 33rd operation                                         its offset, 0
  *   6    CLASH  two operations share a board and a mode and overlap      the lower and the higher operation number
  *   7    RACE   two operations share a mode and overlap, and one writes  the lower and the higher operation number
  *               a cell that the other reads or writes
  *   8    ROOM   the output buffer is too short                           the bytes needed, 0
  *   9    ASK    a number asked for is outside its range                  the place of the first bad one, 0
+ *
+ * Of RANGE, *b is the offset of the first byte of the first wrong number, in the order of the layout. An operation
+ * that ends after the table, or lasts 0 ticks, blames its duration; a row of a reply that unfolds to a start above 999
+ * blames its start index. The offsets, by the tag of the field that is at *a:
+ *
+ *   tag, hexadecimal   its numbers
+ *   01                 3 length
+ *   02                 8 boards, 9 cells, 10 modes
+ *   03                 14 first modes, 18 + 4 * m followers of mode m
+ *   04                 *a + 3 start, *a + 5 duration, *a + 7 boards, *a + 9 reads, *a + 13 writes, *a + 17 modes
+ *   11 (a reply)       3 period
+ *   12 (a reply)       *a + 3 folded start, *a + 5 start index
  *
  * Where the function returns 0, *a is the number of bytes that it wrote, or what was asked for, or 0 where neither is
  * said below, and *b is 0.
@@ -78,7 +90,8 @@ uint32_t trevozhil_judge(const uint8_t *s, size_t s_len, uint64_t *a, uint64_t *
  * set says whether m is a member.
  * Answers 0 where the table is accepted, or a refusal from 1 to 7. A count of follower words that is not the count of
  * modes is SIZE, a number that is too large for its field RANGE, and an operation with numbers missing SHORT; each
- * offset is the one that the field would have in the bytes. Writes nothing but *a and *b.
+ * offset is the one that the field, or the number, would have in the bytes. Here a start can be blamed, too: one above
+ * 65535. Writes nothing but *a and *b.
  */
 uint32_t trevozhil_judge_numbers(uint64_t p, uint64_t boards, uint64_t cells, uint64_t modes, uint64_t first,
                                  const uint64_t *follow, size_t follow_len, const uint64_t *ops, size_t ops_len,

@@ -66,14 +66,14 @@ module _ (N : Numbers) where
 module _ (n first : ℕ) (ws : List ℕ) where
   pub first-wrong : setOk n first ≡ false → setsWrong n (first ∷ ws) ≡ 3
   unfolding setsWrong
-  first-wrong e = wrong-here 3 (number 4 (setOk n first)) (setRanges n ws) e
+  first-wrong e = wrong-here 3 (number 4 first (setOk n)) (setRanges n ws) e
 
   pub first-fine : setOk n first ≡ true → setsWrong n (first ∷ ws) ≡ wrongFrom (7 + 4 * 0) (setRanges n (drop 0 ws))
   unfolding setsWrong
-  first-fine e = wrong-later 3 (number 4 (setOk n first)) (setRanges n ws) e
+  first-fine e = wrong-later 3 (number 4 first (setOk n)) (setRanges n ws) e
 
 module _ (n : ℕ) (ws : List ℕ) (i : ℕ) (h : i < length ws) where
-  words-next : setRanges n (drop i ws) ≡ number 4 (setOk n (getD ws i 0)) ∷ setRanges n (drop (i + 1) ws)
+  words-next : setRanges n (drop i ws) ≡ number 4 (getD ws i 0) (setOk n) ∷ setRanges n (drop (i + 1) ws)
   words-next = rw (drop-cons ws i 0 h, add-one)
 
   pub word-wrong : setOk n (getD ws i 0) ≡ false → wrongFrom (7 + 4 * i) (setRanges n (drop i ws)) ≡ 7 + 4 * i
@@ -89,7 +89,7 @@ pub words-end : (n : ℕ) (ws : List ℕ) (i place : ℕ) → length ws ≤ i �
 unfolding wrongFrom
 words-end n ws i place h = rw (drop-of-length-le ws h)
 
--- what is wrong begins inside the field
+-- what is told is no farther than the end of the field
 pub counts-near : (boards cells modes : ℕ) {wrong : ℕ} → wrong ≡ countsWrong boards cells modes → wrong ≤ 6
 counts-near boards cells modes e = omega (arith, e, counts-within boards cells modes)
 

@@ -35,7 +35,7 @@ module _ (s : List ℕ) where
   module _ (k at n m : ℕ) (h : m < n) where
     -- word m stands first
     ranges-next : setRanges k (words s (at + 4 * m) (n - m))
-        ≡ number 4 (setOk k (num32 s (at + 4 * m))) ∷ setRanges k (words s (at + 4 * (m + 1)) (n - (m + 1)))
+        ≡ number 4 (num32 s (at + 4 * m)) (setOk k) ∷ setRanges k (words s (at + 4 * (m + 1)) (n - (m + 1)))
     unfolding words
     ranges-next =
         let e : n - m ≡ suc (n - (m + 1)) = omega arith in
@@ -61,6 +61,6 @@ module _ (s : List ℕ) where
   unfolding words
   sets-first k n = rw (add-one n)
 
-  -- what is wrong begins inside the field
+  -- what is told is no farther than the end of the field
   pub sets-near : (k n : ℕ) → setsWrong k (words s 14 (n + 1)) ≤ 7 + 4 * n
   sets-near k n = omega (arith, sets-within k (words s 14 (n + 1)), length-words s 14 (n + 1))

@@ -1,36 +1,22 @@
--- What the tests of an operation come to, one after the other, and that numbers in range fit the code's.
+-- What the tests of an operation come to once its dates are in range, and that numbers in range fit the code's.
 -- Assumes nothing.
 use Prim.Native.Nat.{ℕ, _+_, _^_, _<_, _≤_}
 use mathlib.Core.Path.{_≡_}
 use native.Mathlib.Omega.{arith}
 use lib.Pow.{pow-mono}
-use borrow.Author.Tests.{lt-leb, le-leb, lt-ltb, le-ltb}
+use borrow.Author.Tests.{le-leb, lt-ltb}
 use Rattle.rules.specs.Table as rules
 use Rattle.rules.specs.Judge.{opWrong}
 use Rattle.theory.proofs.Ranges.{op-within}
 use Rattle.theory.proofs.Judging.{op-ok}
 use Rattle.ranges.specs.Ranges.{setsOf}
 
--- the tests of an operation, one after the other
-module _ (T : rules.Table) (o : rules.Op) where
-  pub op-start : 65536 ≤ o .start → opWrong T o ≡ 3
-  unfolding opWrong
-  op-start h = rw (le-ltb (o .start) 65536 h)
+-- an operation whose dates are in range is judged by its sets
+pub op-sets : (T : rules.Table) (o : rules.Op) → o .start < 65536 → 1 ≤ o .dur → o .start + o .dur ≤ T .len → opWrong T o ≡ setsOf T o
+unfolding opWrong setsOf
+op-sets T o fits h l = rw (lt-ltb (o .start) 65536 fits, le-leb 1 (o .dur) h, le-leb (o .start + o .dur) (T .len) l)
 
-  module _ (fits : o .start < 65536) where
-    pub op-no-time : o .dur < 1 → opWrong T o ≡ 5
-    unfolding opWrong
-    op-no-time h = rw (lt-ltb (o .start) 65536 fits, lt-leb 1 (o .dur) h)
-
-    pub op-late : 1 ≤ o .dur → T .len < o .start + o .dur → opWrong T o ≡ 5
-    unfolding opWrong
-    op-late h l = rw (lt-ltb (o .start) 65536 fits, le-leb 1 (o .dur) h, lt-leb (o .start + o .dur) (T .len) l)
-
-    pub op-sets : 1 ≤ o .dur → o .start + o .dur ≤ T .len → opWrong T o ≡ setsOf T o
-    unfolding opWrong setsOf
-    op-sets h l = rw (lt-ltb (o .start) 65536 fits, le-leb 1 (o .dur) h, le-leb (o .start + o .dur) (T .len) l)
-
--- what is wrong begins inside the field
+-- what is told is no farther than the end of the field
 pub wrong-near : (T : rules.Table) (o : rules.Op) {wrong : ℕ} → wrong ≡ opWrong T o → wrong ≤ 21
 wrong-near T o e = omega (arith, e, op-within T o)
 

@@ -29,8 +29,8 @@ unfoldable pub setsOf : Table → Op → ℕ
 unfolding wrongFrom
 setsOf T o =
     wrongFrom 7
-    (number 2 (setOk (T .boards) (o .boards))
-    ∷ number 4 (ltb (o .reads) (2 ^ T .cells))
-    ∷ number 4 (ltb (o .writes) (2 ^ T .cells))
-    ∷ number 4 (setOk (T .modes) (o .modes))
+    (number 2 (o .boards) (setOk (T .boards))
+    ∷ number 4 (o .reads) (λ r. ltb r (2 ^ T .cells))
+    ∷ number 4 (o .writes) (λ w. ltb w (2 ^ T .cells))
+    ∷ number 4 (o .modes) (setOk (T .modes))
     ∷ [])

@@ -480,6 +480,12 @@ sets-of-steps : each-set (λ s. setted 1 1 1 (opn 0 1 s 0 0 1))
 unfolding each-set setted
 sets-of-steps = refl
 
+-- 32 cells, modes and 16 boards, each set with every member
+sets-full : tried (record { len = 1000; boards = 16; cells = 32; modes = 32; first = 4294967295; follow = replicate 32 4294967295; ops = opn 999 1 65535 4294967295 4294967295 4294967295 ∷ [] })
+    ≡ good
+unfolding tried
+sets-full = refl
+
 -- ---- "The longest table has 818 bytes": 32 modes and 32 operations. That such a table is accepted, and none that is longer, is proved in
 -- theory/proofs/Lengths.
 longest-length : length (tableBytes (record { len = 0; boards = 0; cells = 0; modes = 0; first = 0; follow = replicate 32 0; ops = replicate 32 noOp }))
@@ -577,7 +583,7 @@ rows = refl
 
 -- ---- document 02, No. 7, as one list: which number is blamed, of a table's bytes, of numbers handed over and of a reply
 
--- K1 with other counts, and as many follower words, all one set; with another operation; with one more
+-- K1 with other counts, and as many follower words, all one set; with another operation
 counted : ℕ → ℕ → ℕ → ℕ → ℕ → Test
 unfolding tried
 counted boards cells modes first after =
@@ -587,13 +593,33 @@ timed : ℕ → ℕ → ℕ → ℕ → ℕ → ℕ → Test
 unfolding tried
 timed t d b r w m = tried (oneMode 5 1 0 (opn t d b r w m ∷ []))
 
+-- the first n bytes of K1 and other bytes behind them
+continued : ℕ → List ℕ → Test
+unfolding judge k1-bytes _then_
+continued n s = judge (take n k1-bytes ++ s) then accepted tt
+
+-- the largest counts, with the followers of mode 31, and an operation behind 31 others
+filled : ℕ → Op → Test
+unfolding tried
+filled last o =
+    tried
+    (record {
+      len = 1000;
+      boards = 16;
+      cells = 32;
+      modes = 32;
+      first = 4294967295;
+      follow = replicate 31 4294967295 ++ (last ∷ []);
+      ops = replicate 31 (opn 0 1 1 0 0 4294967295) ++ (o ∷ []);
+    })
+
 -- two rows at a period
 paired : ℕ → ℕ → ℕ → ℕ → ℕ → Test
 unfolding judgeReply replyBytes _then_
 paired q s f t g = judgeReply (replyBytes (record { period = ticks q; rows = row s f ∷ row t g ∷ [] })) then accepted tt
 
 blamed : List Test
-unfolding tried counted timed rowed paired handed stepped one-op k1-with judge tableBytes _then_
+unfolding tried counted timed continued filled rowed paired handed worded stepped one-op joined k1-with judge judgeReply tableBytes _then_
 blamed =
     -- K1 with duration 5; a start at p, and the highest, with a duration of 1; no duration, and all behind it wrong too
     timed 1 5 1 0 0 1
@@ -619,8 +645,17 @@ blamed =
     ∷ counted 1 0 3 0 0
     ∷ counted 1 0 3 1 8
     ∷ tried (record { len = 5; boards = 1; cells = 0; modes = 3; first = 1; follow = 1 ∷ 7 ∷ 0 ∷ []; ops = opn 1 3 1 0 0 1 ∷ [] })
-    -- handed over: a start too large for its field before all else, one that is not; counts, and sets, of which two are too large; the start of
-    -- a second operation; numbers missing are SHORT
+    -- the ranges of a field before what is missing behind it: of the counts, and of the sets
+    ∷ continued 5 (2 ∷ 0 ∷ 3 ∷ 1 ∷ 33 ∷ 1 ∷ [])
+    ∷ continued 11 (3 ∷ 0 ∷ 8 ∷ 0 ∷ 0 ∷ 0 ∷ 1 ∷ 0 ∷ 0 ∷ 0 ∷ 2 ∷ [])
+    -- the followers of the last of 32 modes; the modes of the last of 32 operations, whose other sets are full
+    ∷ filled 0 (opn 0 1 1 0 0 1)
+    ∷ filled 4294967295 (opn 0 1 65535 4294967295 4294967295 0)
+    -- handed over: the length before the counts, and the sets before operations that are missing; a start too large for its field before all
+    -- else, one that is not; counts, and sets, of which two are too large; the start of a second operation; numbers missing are SHORT; a 33rd
+    -- operation is MANY whatever its numbers, but not before the first one's
+    ∷ handed 0 0 0 1 1 (1 ∷ []) []
+    ∷ worded 1 (2 ∷ []) []
     ∷ stepped (65536 ∷ 0 ∷ 0 ∷ 1 ∷ 1 ∷ 0 ∷ [])
     ∷ stepped (65535 ∷ 1 ∷ 0 ∷ 1 ∷ 1 ∷ 0 ∷ [])
     ∷ handed 5 257 256 1 1 (1 ∷ []) one-op
@@ -629,12 +664,18 @@ blamed =
     ∷ handed 5 1 0 2 1 (1 ∷ 4294967297 ∷ []) one-op
     ∷ stepped (one-op ++ (65536 ∷ 3 ∷ 1 ∷ 0 ∷ 0 ∷ 1 ∷ []))
     ∷ stepped (one-op ++ (65536 ∷ 3 ∷ 1 ∷ 0 ∷ 0 ∷ []))
-    -- a folded start at the period, whatever its start index; an unfolded start of 1000; the second row; the period before the rows
+    ∷ stepped (joined (λ (n : ℕ). one-op) (replicate 32 0) ++ (65536 ∷ 0 ∷ 0 ∷ 1 ∷ 1 ∷ 0 ∷ []))
+    ∷ stepped ((65536 ∷ 0 ∷ 0 ∷ 1 ∷ 1 ∷ 0 ∷ []) ++ joined (λ (n : ℕ). one-op) (replicate 32 0))
+    -- a folded start at the period, whatever its start index; an unfolded start of 1000, the folded start counted in; the second row; the
+    -- period before the rows, and before rows that are missing
     ∷ rowed 500 500 2
     ∷ rowed 500 0 2
+    ∷ rowed 600 399 1
+    ∷ rowed 600 400 1
     ∷ paired 500 0 1 499 65535
     ∷ paired 500 0 1 500 0
     ∷ paired 1001 1001 1 0 0
+    ∷ (judgeReply (17 ∷ 0 ∷ 2 ∷ 0 ∷ 0 ∷ []) then accepted tt)
     ∷ []
 
 places-told : blamed
@@ -643,8 +684,10 @@ places-told : blamed
     ++ (range 43 48 ∷ range 22 29 ∷ range 22 27 ∷ [])
     ++ (range 0 3 ∷ map (range 5) (8 ∷ 8 ∷ 9 ∷ 10 ∷ []))
     ++ map (range 11) (14 ∷ 18 ∷ 26 ∷ [])
-    ++ (range 22 25 ∷ range 22 27 ∷ range 5 8 ∷ range 5 9 ∷ range 11 14 ∷ range 11 22 ∷ range 43 46 ∷ refused 1 43 0 ∷ [])
-    ++ (range 5 8 ∷ range 5 10 ∷ range 12 17 ∷ range 12 15 ∷ range 0 3 ∷ [])
+    ++ (range 5 9 ∷ range 11 18 ∷ range 11 142 ∷ range 797 814 ∷ [])
+    ++ (range 0 3 ∷ range 11 18 ∷ range 22 25 ∷ range 22 27 ∷ range 5 8 ∷ range 5 9 ∷ range 11 14 ∷ range 11 22 ∷ [])
+    ++ (range 43 46 ∷ refused 1 43 0 ∷ refused 5 694 0 ∷ range 22 25 ∷ [])
+    ++ (range 5 8 ∷ range 5 10 ∷ good ∷ range 5 10 ∷ range 12 17 ∷ range 12 15 ∷ range 0 3 ∷ range 0 3 ∷ [])
 unfolding blamed
 places-told = refl
 

@@ -9,7 +9,7 @@ use lib.Bits.{bitOr}
 use lib.ListN.{length, getD, drop}
 use Rattle.rules.specs.Sets.{shares, overlaps}
 use Rattle.rules.specs.Table.{Op, Table, nops, op, endOf, heldTo}
-use Rattle.rules.specs.Rows.{Ticks, Row, Reply, ticks, unfoldAt}
+use Rattle.rules.specs.Rows.{Ticks, Row, Reply, ticks, cycles, unfoldAt}
 use Rattle.rules.specs.Verdicts.{Verdict, accepted, SHORT, ORDER, SIZE, RANGE, MANY, CLASH, RACE, Test, refuseIf, _then_, onwards, more, each}
 use Rattle.rules.specs.Bytes.{num8, num16, num32, words, opAt, rowAt}
 
@@ -46,7 +46,7 @@ unfolding refuseIf
 complete s at size = refuseIf (ltb (length s) (at + 3 + size)) SHORT at 0
 
 -- RANGE: "a number or set outside its range above". "In RANGE, let b be the offset of the first byte of the first wrong number": `wrong` is
--- where in its field that number begins, and 0 where none is wrong, since a field begins with its tag.
+-- how far behind the field's first byte that number begins, and 0 where none is wrong, since the tag stands there.
 unfoldable pub ranged : ℕ → ℕ → Test
 unfolding refuseIf
 ranged wrong at = refuseIf (not (eqb wrong 0)) RANGE at (at + wrong)
@@ -75,35 +75,39 @@ module _ {A : Type 0} (tag size : ℕ) (wrong : A → ℕ) (value : List ℕ →
 
 -- ---- ranges: the numbers of a field one after the other, and which of them is wrong first
 
--- a number of a field: how many bytes it has, and whether it is in its range
+-- a number of a field: how many bytes it has there, the number, and whether it is in its range
 pub record Number : Type 0 where
   pub bytes : ℕ
+  pub value : ℕ
   pub ok : Bool
 
-abbrev pub number : ℕ → Bool → Number
-number bytes ok = record { bytes = bytes; ok = ok }
+-- a number and the test of its range
+abbrev pub number : ℕ → ℕ → (ℕ → Bool) → Number
+number bytes value test = record { bytes = bytes; value = value; ok = test value }
 
--- "the first wrong number, in layout order": where it begins, when the first of all begins at a place; 0 where none is wrong
+-- "the first wrong number, in layout order". The numbers stand one behind the other, the first at a place: where the first wrong one begins,
+-- or 0 where none is wrong
 unfoldable pub wrongFrom : ℕ → List Number → ℕ
 wrongFrom place [] = 0
 wrongFrom place (n ∷ ns) = let rest = wrongFrom (place + n .bytes) ns in cond (n .ok) rest place
 
--- in a field the first number begins behind the tag and the length
+-- in a field the first number stands behind the tag and the length
 unfoldable pub firstWrong : List Number → ℕ
 unfolding wrongFrom
 firstWrong = wrongFrom 3
 
--- a table's length, and a reply's period
+-- field 01, and a reply's 11: "table length p, in ticks | 1 to 1000"
 abbrev pub lenRanges : ℕ → List Number
-lenRanges p = number 2 (leb 1 p && leb p 1000) ∷ []
+lenRanges len = number 2 len (λ p. leb 1 p && leb p 1000) ∷ []
 
 unfoldable pub lenWrong : ℕ → ℕ
 unfolding firstWrong
-lenWrong p = firstWrong (lenRanges p)
+lenWrong len = firstWrong (lenRanges len)
 
+-- field 02: "boards | 1 to 16", "cells | 0 to 32", "modes | 1 to 32"
 abbrev pub countRanges : ℕ → ℕ → ℕ → List Number
 countRanges boards cells modes =
-    number 1 (leb 1 boards && leb boards 16) ∷ number 1 (leb cells 32) ∷ number 1 (leb 1 modes && leb modes 32) ∷ []
+    number 1 boards (λ b. leb 1 b && leb b 16) ∷ number 1 cells (λ c. leb c 32) ∷ number 1 modes (λ m. leb 1 m && leb m 32) ∷ []
 
 unfoldable pub countsWrong : ℕ → ℕ → ℕ → ℕ
 unfolding firstWrong
@@ -113,24 +117,25 @@ countsWrong boards cells modes = firstWrong (countRanges boards cells modes)
 unfoldable pub setOk : ℕ → ℕ → Bool
 setOk n s = ltb 0 s && ltb s (2 ^ n)
 
--- the first modes and the followers of each mode
+-- field 03: the first modes and the followers of each mode
 abbrev pub setRanges : ℕ → List ℕ → List Number
-setRanges n ss = map (λ (s : ℕ). number 4 (setOk n s)) ss
+setRanges n ss = map (λ (s : ℕ). number 4 s (setOk n)) ss
 
 unfoldable pub setsWrong : ℕ → List ℕ → ℕ
 unfolding firstWrong setOk
 setsWrong n ss = firstWrong (setRanges n ss)
 
--- an operation, with the length and the counts of T. A start has no range of its own, but has to fit its field where it is handed over as a
--- number; "an operation that ends after p blames its duration".
+-- field 04, with the length and the counts of T: "a duration d of at least 1, with t + d at most p; a set of boards, not empty; cells it reads;
+-- cells it writes ..; a set of modes, not empty". "An operation that ends after p blames its duration": a start has no range of its own, and is
+-- only asked to fit its field, as it always does in bytes.
 abbrev pub opRanges : Table → Op → List Number
 opRanges T o =
-    number 2 (ltb (o .start) 65536)
-    ∷ number 2 (leb 1 (o .dur) && leb (o .start + o .dur) (T .len))
-    ∷ number 2 (setOk (T .boards) (o .boards))
-    ∷ number 4 (ltb (o .reads) (2 ^ T .cells))
-    ∷ number 4 (ltb (o .writes) (2 ^ T .cells))
-    ∷ number 4 (setOk (T .modes) (o .modes))
+    number 2 (o .start) (λ t. ltb t 65536)
+    ∷ number 2 (o .dur) (λ d. leb 1 d && leb (o .start + d) (T .len))
+    ∷ number 2 (o .boards) (setOk (T .boards))
+    ∷ number 4 (o .reads) (λ r. ltb r (2 ^ T .cells))
+    ∷ number 4 (o .writes) (λ w. ltb w (2 ^ T .cells))
+    ∷ number 4 (o .modes) (setOk (T .modes))
     ∷ []
 
 unfoldable pub opWrong : Table → Op → ℕ
@@ -255,7 +260,8 @@ headOfNumbers N =
 
 -- "judged as if first written in this layout and then read": each field at the offset that it would have. "A wrong count of follower words
 -- is SIZE, a number too large for its field RANGE, an operation with numbers missing SHORT." A number that is too large for its field is
--- outside its range too, since every range fits its field; RANGE blames it at the place that it would have.
+-- outside its range too, since every range fits its field, and a start is tested for that alone; RANGE blames it at the place that it would
+-- have.
 unfoldable pub numbersTest : Numbers → Test
 unfolding ranged lenWrong countsWrong setsWrong refuseIf _then_
 numbersTest N =
@@ -286,7 +292,10 @@ judgeNumbers N =
 -- ---- a reply's bytes: "the period is 1 to 1000, each folded start is below it, each unfolded start is at most 999, and there are 1 to 32
 -- operations"; "a reply's unfolded start above 999" blames "its start index"
 abbrev pub rowRanges : Ticks → Row → List Number
-rowRanges q r = number 2 (ltb (r .start .number) (q .number)) ∷ number 2 (leb (unfoldAt q r .number) 999) ∷ []
+rowRanges q r =
+    number 2 (r .start .number) (λ s. ltb s (q .number))
+    ∷ number 2 (r .fst .number) (λ f. leb (unfoldAt q (record { start = r .start; fst = cycles f }) .number) 999)
+    ∷ []
 
 unfoldable pub rowWrong : Ticks → Row → ℕ
 unfolding firstWrong

@@ -11,15 +11,15 @@ use lib.ListN.{length, getD, drop}
 use lib.Seq.{drop-drop}
 use borrow.Author.Tests.{eqb-false, lt-ltb, not-true}
 use Rattle.rules.specs.Table.{Op, Table}
-use Rattle.rules.specs.Rows.{Row, ticks}
+use Rattle.rules.specs.Rows.{Ticks, Row, ticks}
 use Rattle.rules.specs.Verdicts.{Verdict, accepted, refused, SHORT, ORDER, SIZE, RANGE, MANY, CLASH, RACE, Test, refuseIf, _then_, onwards, more}
-use Rattle.rules.specs.Bytes.{num8, num16, opAt, rowAt}
+use Rattle.rules.specs.Bytes.{num8, num16, num32, words, opAt, rowAt}
 use Rattle.rules.specs.Judge.{needed, header, due, sized, complete, notMany, ranged, fieldTest, repeatTest, fieldsFrom, Number, firstWrong, lenRanges, lenWrong, countRanges, countsWrong, setRanges, setsWrong, opRanges, opWrong, clashes, races, pairsTest, judgeWhole, headOf, withOps, opsPlace, headTest, opsFrom, judge, Numbers, opOfNumbers, headOfNumbers, numbersTest, opsOfNumbers, judgeNumbers, rowRanges, rowWrong, rowsFrom, judgeReply}
 use Rattle.theory.specs.Numbers.{opAmong}
-use Rattle.theory.specs.Blamed.{bytesBefore, among, FirstFrom, Names, Blames, length-wrong, count-wrong, set-wrong, step-wrong, ReplyBlames, period-wrong, row-wrong}
+use Rattle.theory.specs.Blamed.{bytesBefore, among, FirstFrom, Names, numberAt, ReadFrom, Blames, length-wrong, count-wrong, set-wrong, step-wrong, ReplyBlames, period-wrong, row-wrong}
 use Rattle.theory.proofs.Says.{clash-bool}
 use Rattle.theory.proofs.Verdicts.{never-refused, passed, fault-refused, then-first, then-refused, onwards-refused, more-refused}
-use Rattle.theory.proofs.Ranges.{first-told, range-passed}
+use Rattle.theory.proofs.Ranges.{first-told, told-first, range-passed}
 use Rattle.theory.proofs.Judging.{both, field-row, repeat-row, field-passed, repeat-passed, fields-end, fields-next, pairs-refused, whole-row, head-row, head-ok, judge-row, numbers-end, numbers-next, numbers-row, numbers-ok, judgeNumbers-row}
 use Rattle.theory.proofs.Replies.{reply-row}
 
@@ -308,6 +308,60 @@ module _ (s : List ℕ) {a b : ℕ} where
       onwards-refused _ _ e1
       (rows-blame (field-passed s 0 17 2 _ (then-first _ _ h .1) .1))
       (λ rs _ r. never-refused (sym r)))
+
+-- ---- two offsets that are named are one
+pub names-one : (ns : List Number) (a b c : ℕ) → Names ns a b → Names ns a c → b ≡ c
+names-one ns a b c x y = sym (told-first (a + 3) ns b x) ∙ told-first (a + 3) ns c y
+
+-- ---- each number is the one that the bytes have where it begins
+
+module _ (s : List ℕ) where
+  pub len-read : ReadFrom s 3 (lenRanges (headOf s .len))
+  unfolding headOf ReadFrom
+  len-read = (refl, tt)
+
+  pub counts-read : ReadFrom s 8 (countRanges (headOf s .boards) (headOf s .cells) (headOf s .modes))
+  unfolding headOf ReadFrom
+  counts-read = (refl, (refl, (refl, tt)))
+
+  words-read : (n at m : ℕ) → ReadFrom s at (setRanges n (words s at m))
+  unfolding words ReadFrom
+  words-read n at zero = tt
+  words-read n at (suc m) = (refl, words-read n (at + 4) m)
+
+  pub sets-read : ReadFrom s 14 (setRanges (headOf s .modes) (headOf s .first ∷ headOf s .follow))
+  unfolding headOf ReadFrom
+  sets-read = (refl, words-read (num8 s 10) 18 (num8 s 10))
+
+  pub op-read : (T : Table) (at : ℕ) → ReadFrom s (at + 3) (opRanges T (opAt s at))
+  unfolding ReadFrom
+  op-read T at = (
+    refl,
+    (
+      ap (num16 s) (omega arith),
+      (
+        ap (num16 s) (omega arith),
+        (ap (num32 s) (omega arith), (ap (num32 s) (omega arith), (ap (num32 s) (omega arith), tt))),
+      ),
+    ),
+  )
+
+  pub row-read : (q : Ticks) (at : ℕ) → ReadFrom s (at + 3) (rowRanges q (rowAt s at))
+  unfolding ReadFrom
+  row-read q at = (refl, (ap (num16 s) (omega arith), tt))
+
+  -- number k, and so the one that is named: its bytes begin at the offset that is told
+  read-at : (k place : ℕ) (ns : List Number) → k < length ns → ReadFrom s place ns
+      → among ns k .value ≡ numberAt (among ns k .bytes) s (place + bytesBefore k ns)
+  unfolding ReadFrom bytesBefore
+  read-at k place [] h x = absurd (omega arith)
+  read-at zero place (n ∷ ns) h x = x .0 ∙ ap (numberAt (n .bytes) s) (omega arith)
+  read-at (suc k) place (n ∷ ns) h x =
+      read-at k (place + n .bytes) ns (omega arith) (x .1) ∙ ap (numberAt (among ns k .bytes) s) (omega arith)
+
+  pub named-read : (ns : List Number) (a b : ℕ) → ReadFrom s (a + 3) ns → (x : Names ns a b)
+      → among ns (x .which) .value ≡ numberAt (among ns (x .which) .bytes) s b
+  named-read ns a b read x = read-at (x .which) (a + 3) ns (x .there) read ∙ ap (numberAt (among ns (x .which) .bytes) s) (sym (x .begins))
 
 -- ---- "an operation that ends after p blames its duration": in bytes no start is ever blamed, whatever it is
 pub no-start-blamed : (s : List ℕ) → ((i : ℕ) → getD s i 0 < 256) → (T : Table) (at a b : ℕ) → Names (opRanges T (opAt s at)) a b → a + 5 ≤ b

@@ -309,7 +309,7 @@ op-fits H len counts o h =
 -- a length above 1000 is the only number of its field
 len-wrong : (p : ℕ) → 1000 < p → lenWrong p ≡ 3
 unfolding lenWrong
-len-wrong p h = wrong-here 3 (number 2 (leb 1 p && leb p 1000)) [] (simp (le-leb 1 p (omega arith), lt-leb p 1000 h))
+len-wrong p h = wrong-here 3 (number 2 p (λ n. leb 1 n && leb n 1000)) [] (simp (le-leb 1 p (omega arith), lt-leb p 1000 h))
 
 module _ (N : Numbers) where
   abbrev LenGood : Type 0

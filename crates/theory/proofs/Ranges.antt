@@ -8,9 +8,9 @@ use mathlib.Core.Logic.{_↔_}
 use native.Mathlib.Omega.{arith}
 use lib.Dec.{eqb}
 use lib.ListN.{length}
-use borrow.Author.Tests.{eq-eqb, ne-eqb, eqb-true, not-false}
+use borrow.Author.Tests.{lt-leb, le-leb, lt-ltb, le-ltb, eq-eqb, ne-eqb, eqb-true, not-false}
 use Rattle.rules.specs.Table.{Op, Table}
-use Rattle.rules.specs.Rows.{Ticks, Row}
+use Rattle.rules.specs.Rows.{Ticks, Row, unfoldAt}
 use Rattle.rules.specs.Verdicts.{accepted, refused, RANGE}
 use Rattle.rules.specs.Judge.{Number, wrongFrom, firstWrong, ranged, lenRanges, lenWrong, countRanges, countsWrong, setRanges, setsWrong, opRanges, opWrong, rowRanges, rowWrong}
 use Rattle.rules.specs.Bench.{All}
@@ -93,7 +93,7 @@ told-at (suc k) place (n ∷ ns) w there begins wrong before =
 pub told-first : (place : ℕ) (ns : List Number) (w : ℕ) → FirstFrom place ns w → wrongFrom place ns ≡ w
 told-first place ns w x = told-at (x .which) place ns w (x .there) (x .begins) (x .wrong) (x .before)
 
--- it begins before the numbers end
+-- what is told is no farther than the end of the numbers
 wrong-within : (place : ℕ) (ns : List Number) → wrongFrom place ns ≤ place + bytesBefore (length ns) ns
 unfolding wrongFrom bytesBefore
 wrong-within place [] = omega arith
@@ -104,7 +104,7 @@ wrong-within place (n ∷ ns) = go (known (n .ok)) (wrong-within (place + n .byt
     go (holds h) rest = omega (arith, wrong-later place n ns h)
     go (fails h) rest = omega (arith, wrong-here place n ns h)
 
--- so a wrong number begins inside its field
+-- so what is told lies in its field, or just behind it
 
 pub len-within : (p : ℕ) → lenWrong p ≤ 5
 unfolding lenWrong bytesBefore
@@ -131,6 +131,41 @@ op-within T o = wrong-within 3 (opRanges T o)
 pub row-within : (q : Ticks) (r : Row) → rowWrong q r ≤ 7
 unfolding rowWrong bytesBefore
 row-within q r = wrong-within 3 (rowRanges q r)
+
+-- ---- the request's sentences: which number is blamed
+
+module _ (T : Table) (o : Op) where
+  -- a start too large for its field
+  pub op-start : 65536 ≤ o .start → opWrong T o ≡ 3
+  unfolding opWrong
+  op-start h = rw (le-ltb (o .start) 65536 h)
+
+  module _ (fits : o .start < 65536) where
+    -- "a duration d of at least 1"
+    pub op-no-time : o .dur < 1 → opWrong T o ≡ 5
+    unfolding opWrong
+    op-no-time h = rw (lt-ltb (o .start) 65536 fits, lt-leb 1 (o .dur) h)
+
+    -- "an operation that ends after p blames its duration"
+    pub op-late : 1 ≤ o .dur → T .len < o .start + o .dur → opWrong T o ≡ 5
+    unfolding opWrong
+    op-late h l = rw (lt-ltb (o .start) 65536 fits, le-leb 1 (o .dur) h, lt-leb (o .start + o .dur) (T .len) l)
+
+module _ (q : Ticks) (r : Row) where
+  -- a folded start that is not below the period
+  pub row-start : q .number ≤ r .start .number → rowWrong q r ≡ 3
+  unfolding rowWrong
+  row-start h = rw (le-ltb (r .start .number) (q .number) h)
+
+  module _ (below : r .start .number < q .number) where
+    -- "a reply's unfolded start above 999 its start index"
+    pub row-index : 999 < unfoldAt q r .number → rowWrong q r ≡ 5
+    unfolding rowWrong
+    row-index h = rw (lt-ltb (r .start .number) (q .number) below, lt-leb (unfoldAt q r .number) 999 h)
+
+    pub row-fine : unfoldAt q r .number ≤ 999 → rowWrong q r ≡ 0
+    unfolding rowWrong
+    row-fine h = rw (lt-ltb (r .start .number) (q .number) below, le-leb (unfoldAt q r .number) 999 h)
 
 -- ---- the range test
 

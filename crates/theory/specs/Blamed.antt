@@ -3,14 +3,16 @@
 -- Assumes nothing.
 use Prim.Native.Nat.{ℕ, zero, suc, _+_, _*_, _<_}
 use mathlib.Core.Path.{_≡_}
-use mathlib.Core.Bool.{true, false}
+use mathlib.Core.Bool.{true, false, cond}
 use mathlib.Core.List.{List, [], _∷_}
+use lib.Dec.{eqb}
 use lib.ListN.{length, getD}
 use Rattle.rules.specs.Table.{Op, Table}
 use Rattle.rules.specs.Rows.{Ticks, Row}
+use Rattle.rules.specs.Bytes.{num8, num16, num32}
 use Rattle.rules.specs.Judge.{Number, number, lenRanges, lenWrong, countRanges, countsWrong, setRanges, setsWrong, opRanges, opWrong, rowRanges, rowWrong, opsPlace}
 
--- how many bytes the numbers before number k have
+-- how many bytes the numbers before number k have: it begins that far behind the first
 unfoldable pub bytesBefore : ℕ → List Number → ℕ
 bytesBefore zero ns = 0
 bytesBefore (suc k) [] = 0
@@ -18,7 +20,7 @@ bytesBefore (suc k) (n ∷ ns) = n .bytes + bytesBefore k ns
 
 -- number k of a list; past its end stands nothing that is wrong
 abbrev pub among : List Number → ℕ → Number
-among ns k = getD ns k (number 0 true)
+among ns k = getD ns k (number 0 0 (λ _. true))
 
 -- of the numbers, the first of which begins at a place, one begins at w and is wrong, and each before it is in its range
 pub record FirstFrom (place : ℕ) (ns : List Number) (w : ℕ) : Type 0 where
@@ -32,8 +34,17 @@ pub record FirstFrom (place : ℕ) (ns : List Number) (w : ℕ) : Type 0 where
 abbrev pub Names : List Number → ℕ → ℕ → Type 0
 Names ns a b = FirstFrom (a + 3) ns b
 
+-- the number in 1, 2 or 4 bytes at a place
+abbrev pub numberAt : ℕ → List ℕ → ℕ → ℕ
+numberAt bytes s at = cond (eqb bytes 1) (num8 s at) (cond (eqb bytes 2) (num16 s at) (num32 s at))
+
+-- each of the numbers is the one that the bytes have where it begins, the first of all at a place
+unfoldable pub ReadFrom : List ℕ → ℕ → List Number → Type 0
+ReadFrom s place [] = Unit {0}
+ReadFrom s place (n ∷ ns) = (n .value ≡ numberAt (n .bytes) s place) × ReadFrom s (place + n .bytes) ns
+
 -- what RANGE says of a table, by what stands before its operations and by each operation: the field at a has a wrong number, b is where the
--- first one begins, and every number of the fields before that one is in its range
+-- first one begins, and no number of the fields before that one is wrong (`Ranges.none-wrong`: each is in its range)
 pub data Blames (H : Table) (step : ℕ → Op) (a b : ℕ) : Type 0 where
   length-wrong : a ≡ 0 → Names (lenRanges (H .len)) a b → Blames H step a b
   count-wrong : lenWrong (H .len) ≡ 0 → a ≡ 5 → Names (countRanges (H .boards) (H .cells) (H .modes)) a b → Blames H step a b

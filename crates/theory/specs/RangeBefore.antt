@@ -1,5 +1,5 @@
--- The verdicts as they were before document 02's No. 7: RANGE had b 0, and its tests said only whether a field was in its ranges. The text of
--- these definitions is the one that `rules` had then; what No. 7 did not touch is taken from there.
+-- The verdicts as they were before document 02's No. 7: RANGE had b 0, and its tests said only whether a field was in its ranges. These are the
+-- definitions that `rules` had then, with two short ones written out in `judge` and `judgeReply`; what No. 7 did not touch is taken from there.
 -- Assumes nothing.
 use Prim.Native.Nat.{ℕ, zero, suc, _+_, _*_, _^_}
 use mathlib.Core.Bool.{Bool, true, cond, not, _&&_}

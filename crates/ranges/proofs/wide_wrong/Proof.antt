@@ -8,8 +8,9 @@ use lib.Dec.{ltb}
 use borrow.Author.Needs.{needs}
 use borrow.Author.Tests.{not-true, not-false}
 use Rattle.rules.specs.Judge.{setOk, opWrong}
+use Rattle.theory.proofs.Ranges.{op-start, op-no-time, op-late}
 use Rattle.ranges.specs.Ranges.{wideOf, counted, setsOf}
-use Rattle.ranges.specs.RangeLaws.{op-start, op-no-time, op-late, op-sets}
+use Rattle.ranges.specs.RangeLaws.{op-sets}
 use Rattle.ranges.proofs.wide_wrong.Statement.{statement}
 use Rattle.ranges.proofs.wide_wrong.Tie as tie
 
