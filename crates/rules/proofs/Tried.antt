@@ -711,7 +711,7 @@ k1-unfolded : IsUnfold (17 ∷ 0 ∷ 2 ∷ 0 ∷ 3 ∷ 18 ∷ 0 ∷ 4 ∷ 0 ∷ 
 unfolding written bytesOf judgeReply startsBytes startsOf
 k1-unfolded = refl
 
-kept : written (refused 4 22 0) (replicate 3 9) ≡ record { answer = refused 4 22 0; buffer = replicate 3 9 }
+kept : written (refused 4 22 27) (replicate 3 9) ≡ record { answer = refused 4 22 27; buffer = replicate 3 9 }
 unfolding written
 kept = refl
 

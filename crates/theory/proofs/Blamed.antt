@@ -3,7 +3,7 @@
 -- Assumes nothing.
 use Prim.Native.Nat.{ℕ, zero, suc, _+_, _*_, _<_, _≤_}
 use mathlib.Core.Path.{_≡_, refl, sym, ap, subst, _∙_}
-use mathlib.Core.Bool.{Bool, true, false, not, cond}
+use mathlib.Core.Bool.{Bool, false, not}
 use mathlib.Core.List.{List, [], _∷_}
 use native.Mathlib.Omega.{arith}
 use lib.Dec.{leb, ltb, eqb}
@@ -12,11 +12,11 @@ use lib.Seq.{drop-drop}
 use borrow.Author.Tests.{eqb-false, lt-ltb, not-true}
 use Rattle.rules.specs.Table.{Op, Table}
 use Rattle.rules.specs.Rows.{Ticks, Row, ticks}
-use Rattle.rules.specs.Verdicts.{Verdict, accepted, refused, SHORT, ORDER, SIZE, RANGE, MANY, CLASH, RACE, Test, refuseIf, _then_, onwards, more}
+use Rattle.rules.specs.Verdicts.{Verdict, accepted, refused, SHORT, ORDER, SIZE, RANGE, MANY, CLASH, RACE, refuseIf, _then_, more}
 use Rattle.rules.specs.Bytes.{num8, num16, num32, words, opAt, rowAt}
 use Rattle.rules.specs.Judge.{needed, header, due, sized, complete, notMany, ranged, fieldTest, repeatTest, fieldsFrom, Number, firstWrong, lenRanges, lenWrong, countRanges, countsWrong, setRanges, setsWrong, opRanges, opWrong, clashes, races, pairsTest, judgeWhole, headOf, withOps, opsPlace, headTest, opsFrom, judge, Numbers, opOfNumbers, headOfNumbers, numbersTest, opsOfNumbers, judgeNumbers, rowRanges, rowWrong, rowsFrom, judgeReply}
 use Rattle.theory.specs.Numbers.{opAmong}
-use Rattle.theory.specs.Blamed.{bytesBefore, among, FirstFrom, Names, numberAt, ReadFrom, Blames, length-wrong, count-wrong, set-wrong, step-wrong, ReplyBlames, period-wrong, row-wrong}
+use Rattle.theory.specs.Blamed.{bytesBefore, among, Names, numberAt, ReadFrom, Blames, length-wrong, count-wrong, set-wrong, step-wrong, ReplyBlames, period-wrong, row-wrong}
 use Rattle.theory.proofs.Says.{clash-bool}
 use Rattle.theory.proofs.Verdicts.{never-refused, passed, fault-refused, then-first, then-refused, onwards-refused, more-refused}
 use Rattle.theory.proofs.Ranges.{first-told, told-first, range-passed}

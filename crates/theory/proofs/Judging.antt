@@ -2,7 +2,7 @@
 -- Assumes nothing.
 use Prim.Native.Nat.{ℕ, zero, suc, _+_, _-_, _*_, _^_, _<_, _≤_}
 use mathlib.Core.Path.{_≡_, refl, sym, ap, subst, _∙_}
-use mathlib.Core.Bool.{Bool, true, false, not, cond, _&&_, false≢true}
+use mathlib.Core.Bool.{Bool, true, false, not, cond, false≢true}
 use mathlib.Core.List.{List, [], _∷_}
 use mathlib.Core.Logic.{_↔_, _⊎_, inl, inr}
 use native.Mathlib.Omega.{arith}
@@ -12,7 +12,7 @@ use lib.ListN.{length, getD, drop, length-drop}
 use borrow.Author.Tests.{lt-ltb, ltb-false, leb-false, leb-true, eqb-true, eqb-false, not-false}
 use Rattle.rules.specs.Sets.{Share}
 use Rattle.rules.specs.Table.{Op, Table, nops, op, noOp, SetOf, OpOk, Clash, Race, Contest, Accepted}
-use Rattle.rules.specs.Verdicts.{Verdict, accepted, refused, SHORT, ORDER, SIZE, RANGE, MANY, CLASH, RACE, Test, refuseIf, _then_, onwards, more, each}
+use Rattle.rules.specs.Verdicts.{Verdict, accepted, refused, SHORT, ORDER, SIZE, MANY, CLASH, RACE, Test, refuseIf, _then_, onwards, more, each}
 use Rattle.rules.specs.Bytes.{words, opAt}
 use Rattle.rules.specs.Judge.{needed, header, due, sized, complete, ranged, notMany, fieldTest, repeatTest, fieldsFrom, lenRanges, lenWrong, countRanges, countsWrong, setOk, setRanges, setsWrong, opRanges, opWrong, clashes, races, pairsTest, judgeWhole, headOf, withOps, opsPlace, headTest, opsFrom, judge, Numbers, opOfNumbers, headOfNumbers, numbersTest, opsOfNumbers, judgeNumbers}
 use Rattle.rules.specs.Bench.{All}

@@ -1,7 +1,7 @@
 -- Document 02, No. 7, moved b of RANGE and nothing else: for every input the verdict that was given before is the one of today with that b
 -- forgotten.
 -- Assumes nothing.
-use Prim.Native.Nat.{ℕ, zero, suc, _+_, _*_, _^_, _<_, _≤_}
+use Prim.Native.Nat.{ℕ, zero, suc, _+_, _<_, _≤_}
 use mathlib.Core.Path.{_≡_, refl, sym, ap, _∙_}
 use mathlib.Core.Bool.{Bool, true, false, not, cond, _&&_}
 use mathlib.Core.List.{List, [], _∷_}
@@ -10,16 +10,16 @@ use native.Mathlib.Decide.{ℕ-discrete}
 use native.Mathlib.Omega.{arith}
 use lib.Dec.{leb, ltb, eqb}
 use lib.ListN.{length, getD, drop}
-use borrow.Author.Tests.{eq-eqb, ne-eqb}
+use borrow.Author.Tests.{ne-eqb}
 use Rattle.rules.specs.Table.{Op, Table, SetOf, OpOk}
 use Rattle.rules.specs.Rows.{ticks}
-use Rattle.rules.specs.Verdicts.{Verdict, accepted, refused, SHORT, ORDER, SIZE, RANGE, Test, refuseIf, _then_, onwards, more}
+use Rattle.rules.specs.Verdicts.{Verdict, accepted, refused, SHORT, ORDER, SIZE, RANGE, Test, _then_, onwards, more}
 use Rattle.rules.specs.Bytes.{num16, opAt, rowAt}
-use Rattle.rules.specs.Judge.{setOk, lenWrong, countsWrong, setsWrong, opWrong, rowWrong, judgeWhole, headOf, withOps, opsPlace, Numbers, opOfNumbers, headOfNumbers, rowsFrom, opsFrom}
+use Rattle.rules.specs.Judge.{setOk, lenWrong, countsWrong, setsWrong, opWrong, headOf, withOps, opsPlace, Numbers, opOfNumbers, headOfNumbers, rowsFrom, opsFrom}
 use Rattle.rules.specs.Judge as today
-use Rattle.theory.specs.RangeBefore.{forgotten, lenOk, countsOk, eachSetOk, opOk, rowOk}
+use Rattle.theory.specs.RangeBefore.{forgotten, lenOk, countsOk, eachSetOk, opOk}
 use Rattle.theory.specs.RangeBefore as before
-use Rattle.theory.proofs.Says.{Says, Known, holds, fails, known, clash-bool, says-by, says-leb, says-ltb, says-and}
+use Rattle.theory.proofs.Says.{Says, clash-bool, says-by, says-leb, says-ltb, says-and}
 use Rattle.theory.proofs.Verdicts.{never-refused, passes, refuses, then-same}
 use Rattle.theory.proofs.Ranges.{ranged-yes, ranged-no}
 use Rattle.theory.proofs.Judging.{says-set, sets-more, op-ok, ok-op, says-sets, says-len, says-counts, field-row, repeat-row, fields-end, fields-next, head-row, head-ok, judge-row, numbers-end, numbers-next, numbers-row, numbers-ok, judgeNumbers-row}

@@ -34,7 +34,7 @@ abbrev pub Fine : Number → Type 0
 Fine n = n .ok ≡ true
 
 -- none is wrong exactly where each is in its range; no number begins at 0
-pub none-from : (place : ℕ) (ns : List Number) → 0 < place → (wrongFrom place ns ≡ 0) ↔ All Fine ns
+none-from : (place : ℕ) (ns : List Number) → 0 < place → (wrongFrom place ns ≡ 0) ↔ All Fine ns
 unfolding wrongFrom All
 none-from place [] some = (λ e. tt, λ x. refl)
 none-from place (n ∷ ns) some =
