@@ -20,7 +20,7 @@ use Rattle.rules.specs.Better.{OpBetter, Better}
 use Rattle.rules.specs.Rows.{ticks, replyOf, startsOf, margin}
 use Rattle.rules.specs.Verdicts.{Verdict, accepted, refused, Test, _then_}
 use Rattle.rules.specs.Bytes.{tableBytes, longestTable, joined, replyBytes, startsBytes}
-use Rattle.rules.specs.Judge.{opsFrom, judge, judgeNumbers, judgeReply}
+use Rattle.rules.specs.Judge.{opsFrom, judge, opsOfNumbers, judgeNumbers, judgeReply}
 use Rattle.rules.specs.Text.{replyText, textOf, yesNoLine, marginLine, startsText}
 use Rattle.rules.specs.Words.{foldAsked, boardsAsked, valuesAsked, marginAsked, unfoldAsked, nothingAsked, questionOf, askable}
 use Rattle.rules.specs.Answers.{put, written, Answers, bytesOf, IsText, IsUnfold, marginTest, asked, BoardsFit, ValuesArrive, printed, IsPrinted, IsSaid}
@@ -598,10 +598,10 @@ continued : ℕ → List ℕ → Test
 unfolding judge k1-bytes _then_
 continued n s = judge (take n k1-bytes ++ s) then accepted tt
 
--- the largest counts, with the followers of mode 31, and an operation behind 31 others
-filled : ℕ → Op → Test
+-- the largest counts, with the followers of mode 31, and operations
+filled : ℕ → List Op → Test
 unfolding tried
-filled last o =
+filled last os =
     tried
     (record {
       len = 1000;
@@ -610,8 +610,13 @@ filled last o =
       modes = 32;
       first = 4294967295;
       follow = replicate 31 4294967295 ++ (last ∷ []);
-      ops = replicate 31 (opn 0 1 1 0 0 4294967295) ++ (o ∷ []);
+      ops = os;
     })
+
+-- where one operation more may come, and no second
+single : List ℕ → Test
+unfolding opsOfNumbers _then_
+single ns = opsOfNumbers k1 ns 1 22 then accepted tt
 
 -- two rows at a period
 paired : ℕ → ℕ → ℕ → ℕ → ℕ → Test
@@ -619,7 +624,7 @@ unfolding judgeReply replyBytes _then_
 paired q s f t g = judgeReply (replyBytes (record { period = ticks q; rows = row s f ∷ row t g ∷ [] })) then accepted tt
 
 blamed : List Test
-unfolding tried counted timed continued filled rowed paired handed worded stepped one-op joined k1-with judge judgeReply tableBytes _then_
+unfolding tried counted timed continued filled rowed paired handed worded stepped single one-op k1-with judge judgeReply tableBytes _then_
 blamed =
     -- K1 with duration 5; a start at p, and the highest, with a duration of 1; no duration, and all behind it wrong too
     timed 1 5 1 0 0 1
@@ -648,12 +653,12 @@ blamed =
     -- the ranges of a field before what is missing behind it: of the counts, and of the sets
     ∷ continued 5 (2 ∷ 0 ∷ 3 ∷ 1 ∷ 33 ∷ 1 ∷ [])
     ∷ continued 11 (3 ∷ 0 ∷ 8 ∷ 0 ∷ 0 ∷ 0 ∷ 1 ∷ 0 ∷ 0 ∷ 0 ∷ 2 ∷ [])
-    -- the followers of the last of 32 modes; the modes of the last of 32 operations, whose other sets are full
-    ∷ filled 0 (opn 0 1 1 0 0 1)
-    ∷ filled 4294967295 (opn 0 1 65535 4294967295 4294967295 0)
+    -- the followers of the last of 32 modes; the modes of a seventh operation, whose other sets are full
+    ∷ filled 0 []
+    ∷ filled 4294967295 (replicate 6 (opn 0 1 1 0 0 1) ++ (opn 0 1 65535 4294967295 4294967295 0 ∷ []))
     -- handed over: the length before the counts, and the sets before operations that are missing; a start too large for its field before all
-    -- else, one that is not; counts, and sets, of which two are too large; the start of a second operation; numbers missing are SHORT; a 33rd
-    -- operation is MANY whatever its numbers, but not before the first one's
+    -- else, one that is not; counts, and sets, of which two are too large; the start of a second operation; numbers missing are SHORT; one
+    -- operation too many is MANY whatever its numbers, but not before the first one's
     ∷ handed 0 0 0 1 1 (1 ∷ []) []
     ∷ worded 1 (2 ∷ []) []
     ∷ stepped (65536 ∷ 0 ∷ 0 ∷ 1 ∷ 1 ∷ 0 ∷ [])
@@ -664,8 +669,8 @@ blamed =
     ∷ handed 5 1 0 2 1 (1 ∷ 4294967297 ∷ []) one-op
     ∷ stepped (one-op ++ (65536 ∷ 3 ∷ 1 ∷ 0 ∷ 0 ∷ 1 ∷ []))
     ∷ stepped (one-op ++ (65536 ∷ 3 ∷ 1 ∷ 0 ∷ 0 ∷ []))
-    ∷ stepped (joined (λ (n : ℕ). one-op) (replicate 32 0) ++ (65536 ∷ 0 ∷ 0 ∷ 1 ∷ 1 ∷ 0 ∷ []))
-    ∷ stepped ((65536 ∷ 0 ∷ 0 ∷ 1 ∷ 1 ∷ 0 ∷ []) ++ joined (λ (n : ℕ). one-op) (replicate 32 0))
+    ∷ single (one-op ++ (65536 ∷ 0 ∷ 0 ∷ 1 ∷ 1 ∷ 0 ∷ []))
+    ∷ single ((65536 ∷ 0 ∷ 0 ∷ 1 ∷ 1 ∷ 0 ∷ []) ++ one-op)
     -- a folded start at the period, whatever its start index; an unfolded start of 1000, the folded start counted in; the second row; the
     -- period before the rows, and before rows that are missing
     ∷ rowed 500 500 2
@@ -684,9 +689,9 @@ places-told : blamed
     ++ (range 43 48 ∷ range 22 29 ∷ range 22 27 ∷ [])
     ++ (range 0 3 ∷ map (range 5) (8 ∷ 8 ∷ 9 ∷ 10 ∷ []))
     ++ map (range 11) (14 ∷ 18 ∷ 26 ∷ [])
-    ++ (range 5 9 ∷ range 11 18 ∷ range 11 142 ∷ range 797 814 ∷ [])
+    ++ (range 5 9 ∷ range 11 18 ∷ range 11 142 ∷ range 272 289 ∷ [])
     ++ (range 0 3 ∷ range 11 18 ∷ range 22 25 ∷ range 22 27 ∷ range 5 8 ∷ range 5 9 ∷ range 11 14 ∷ range 11 22 ∷ [])
-    ++ (range 43 46 ∷ refused 1 43 0 ∷ refused 5 694 0 ∷ range 22 25 ∷ [])
+    ++ (range 43 46 ∷ refused 1 43 0 ∷ refused 5 43 0 ∷ range 22 25 ∷ [])
     ++ (range 5 8 ∷ range 5 10 ∷ good ∷ range 5 10 ∷ range 12 17 ∷ range 12 15 ∷ range 0 3 ∷ range 0 3 ∷ [])
 unfolding blamed
 places-told = refl
