@@ -75,7 +75,7 @@ module _ (s : List ℕ) (at : ℕ) where
   complete-yes size h = passes _ SHORT at 0 (le-ltb (length s) (at + 3 + size) h)
 
 -- ---- the whole row is these tests and then the ranges
-module _ (s : List ℕ) (at tag size : ℕ) (wrong : ℕ) where
+module _ (s : List ℕ) (at tag size wrong : ℕ) where
   field-split : fieldTest s at tag size wrong ≡ (fieldOf s at tag size then ranged wrong at)
   unfolding fieldOf sizedOf
   field-split =
@@ -157,7 +157,7 @@ module _ (s : List ℕ) (at tag size : ℕ) where
 
 -- ---- the tests before the ranges, and the ranges
 
-module _ (s : List ℕ) (at tag size : ℕ) (wrong : ℕ) where
+module _ (s : List ℕ) (at tag size wrong : ℕ) where
   -- a field is refused where its tests before the ranges refuse
   pub field-bad : (r : Refusal) → refusalOf r ≡ fieldOf s at tag size → refusalOf r ≡ fieldTest s at tag size wrong
   field-bad r e = sym (field-split s at tag size wrong ∙ then-refusal r _ (sym e))
@@ -170,7 +170,7 @@ module _ (s : List ℕ) (at tag size : ℕ) (wrong : ℕ) where
   pub repeat-bad : (left : ℕ) (r : Refusal) → refusalOf r ≡ repeatOf s at left tag size → refusalOf r ≡ repeatTest s at left tag size wrong
   repeat-bad left r e = sym (repeat-split s at tag size wrong left ∙ then-refusal r _ (sym e))
 
-  pub repeat-ranged : (left : ℕ) (w : ℕ) → accepted tt ≡ repeatOf s at left tag size → w ≡ wrong → ranged w at ≡ repeatTest s at left tag size wrong
+  pub repeat-ranged : (left w : ℕ) → accepted tt ≡ repeatOf s at left tag size → w ≡ wrong → ranged w at ≡ repeatTest s at left tag size wrong
   repeat-ranged left w e h = ap (λ (x : ℕ). ranged x at) h ∙ sym (repeat-split s at tag size wrong left ∙ then-accepts _ (sym e))
 
 -- ---- repeated fields, one after the other

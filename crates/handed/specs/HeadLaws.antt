@@ -1,22 +1,20 @@
 -- Laws of the numbers before the operations: their tests, the words, and that numbers that pass fit the code's.
 -- Assumes nothing.
-use Prim.Native.Nat.{ℕ, suc, _+_, _*_, _^_, _<_, _≤_}
+use Prim.Native.Nat.{ℕ, suc, _+_, _^_, _<_, _≤_}
 use mathlib.Core.Path.{_≡_, sym, ap, _∙_}
 use mathlib.Core.Bool.{true, false, not}
 use mathlib.Core.List.{List, _∷_}
 use native.Mathlib.Omega.{arith}
-use native.Mathlib.Numerals.{add-one}
 use lib.Dec.{eqb}
 use lib.Pow.{pow-mono}
-use lib.ListN.{length, getD, drop, drop-of-length-le}
-use lib.Seq.{drop-cons}
+use lib.ListN.{length}
 use borrow.Author.Tests.{eq-eqb, ne-eqb, eqb-true, not-false}
 use Rattle.rules.specs.Table.{SetOf}
 use Rattle.rules.specs.Verdicts.{accepted, refused, ORDER, SIZE, RANGE, refuseIf, _then_}
-use Rattle.rules.specs.Judge.{Numbers, headOfNumbers, ranged, number, wrongFrom, lenWrong, countsWrong, setOk, setRanges, setsWrong, opsPlace, numbersTest}
+use Rattle.rules.specs.Judge.{Numbers, headOfNumbers, ranged, number, lenWrong, countsWrong, setOk, setRanges, setsWrong, opsPlace, numbersTest}
 use Rattle.theory.proofs.Verdicts.{passes, refuses, passed, then-accepts, then-refuses, then-first, then-rest}
 use Rattle.theory.proofs.Judging.{says-sets, says-len, says-counts, numbers-row}
-use Rattle.theory.proofs.Ranges.{wrong-here, wrong-later, counts-within, sets-within, range-passed, ranged-yes, ranged-no}
+use Rattle.theory.proofs.Ranges.{wrong-here, wrong-later, setsFrom, range-passed, ranged-yes, ranged-no}
 use Rattle.fields.specs.Verdicts.{refusalOf}
 use Rattle.fields.specs.declared.Refusal.{Refusal}
 use Rattle.fields.specs.RefusalLaws.{then-refusal}
@@ -61,40 +59,15 @@ module _ (N : Numbers) where
           pub test-some : (length (N .ops) ≡ 0 → ⊥) → numbersTest N ≡ accepted tt
           test-some h = to-sets ∙ then-accepts _ (ranged-yes _ 11 e3) ∙ passes _ ORDER _ 0 (ne-eqb _ 0 h)
 
--- ---- the sets, one after the other: the first modes, and then the words, of which word i would begin at 7 + 4·i
-
+-- ---- the sets: the first modes, and then the words, of which word i would begin at 7 + 4·i
 module _ (n first : ℕ) (ws : List ℕ) where
   pub first-wrong : setOk n first ≡ false → setsWrong n (first ∷ ws) ≡ 3
   unfolding setsWrong
   first-wrong e = wrong-here 3 (number 4 first (setOk n)) (setRanges n ws) e
 
-  pub first-fine : setOk n first ≡ true → setsWrong n (first ∷ ws) ≡ wrongFrom (7 + 4 * 0) (setRanges n (drop 0 ws))
+  pub first-fine : setOk n first ≡ true → setsWrong n (first ∷ ws) ≡ setsFrom 7 n ws 0
   unfolding setsWrong
   first-fine e = wrong-later 3 (number 4 first (setOk n)) (setRanges n ws) e
-
-module _ (n : ℕ) (ws : List ℕ) (i : ℕ) (h : i < length ws) where
-  words-next : setRanges n (drop i ws) ≡ number 4 (getD ws i 0) (setOk n) ∷ setRanges n (drop (i + 1) ws)
-  words-next = rw (drop-cons ws i 0 h, add-one)
-
-  pub word-wrong : setOk n (getD ws i 0) ≡ false → wrongFrom (7 + 4 * i) (setRanges n (drop i ws)) ≡ 7 + 4 * i
-  word-wrong e = ap (wrongFrom (7 + 4 * i)) words-next ∙ wrong-here (7 + 4 * i) _ _ e
-
-  pub word-fine : setOk n (getD ws i 0) ≡ true
-      → wrongFrom (7 + 4 * i) (setRanges n (drop i ws)) ≡ wrongFrom (7 + 4 * (i + 1)) (setRanges n (drop (i + 1) ws))
-  word-fine e =
-      let place : 7 + 4 * i + 4 ≡ 7 + 4 * (i + 1) = omega arith in
-      ap (wrongFrom (7 + 4 * i)) words-next ∙ wrong-later (7 + 4 * i) _ _ e ∙ rw place
-
-pub words-end : (n : ℕ) (ws : List ℕ) (i place : ℕ) → length ws ≤ i → wrongFrom place (setRanges n (drop i ws)) ≡ 0
-unfolding wrongFrom
-words-end n ws i place h = rw (drop-of-length-le ws h)
-
--- what is told is no farther than the end of the field
-pub counts-near : (boards cells modes : ℕ) {wrong : ℕ} → wrong ≡ countsWrong boards cells modes → wrong ≤ 6
-counts-near boards cells modes e = omega (arith, e, counts-within boards cells modes)
-
-pub sets-near : (n first : ℕ) (ws : List ℕ) {wrong : ℕ} → wrong ≡ setsWrong n (first ∷ ws) → length ws ≤ 32 → wrong ≤ 135
-sets-near n first ws e h = omega (arith, e, sets-within n (first ∷ ws))
 
 -- numbers that pass fit the code's
 fits : {n s : ℕ} → SetOf n s → n ≤ 32 → s < 2 ^ 32

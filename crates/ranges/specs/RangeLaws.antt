@@ -7,18 +7,13 @@ use lib.Pow.{pow-mono}
 use borrow.Author.Tests.{le-leb, lt-ltb}
 use Rattle.rules.specs.Table as rules
 use Rattle.rules.specs.Judge.{opWrong}
-use Rattle.theory.proofs.Ranges.{op-within}
-use Rattle.theory.proofs.Judging.{op-ok}
+use Rattle.theory.proofs.Judging.{op-passed}
 use Rattle.ranges.specs.Ranges.{setsOf}
 
 -- an operation whose dates are in range is judged by its sets
 pub op-sets : (T : rules.Table) (o : rules.Op) → o .start < 65536 → 1 ≤ o .dur → o .start + o .dur ≤ T .len → opWrong T o ≡ setsOf T o
 unfolding opWrong setsOf
 op-sets T o fits h l = rw (lt-ltb (o .start) 65536 fits, le-leb 1 (o .dur) h, le-leb (o .start + o .dur) (T .len) l)
-
--- what is told is no farther than the end of the field
-pub wrong-near : (T : rules.Table) (o : rules.Op) {wrong : ℕ} → wrong ≡ opWrong T o → wrong ≤ 21
-wrong-near T o e = omega (arith, e, op-within T o)
 
 -- numbers in range fit 32 bits
 pub record OpSmall (o : rules.Op) : Type 0 where
@@ -34,7 +29,7 @@ small {s} {n} h l = let m : 2 ^ n ≤ 2 ^ 32 = pow-mono l in omega arith
 
 pub op-small : (T : rules.Table) (o : rules.Op) → T .len < 2 ^ 32 → (T .boards ≤ 32) × (T .cells ≤ 32) × (T .modes ≤ 32) → opWrong T o ≡ 0 → OpSmall o
 op-small T o h l e =
-    let ok = op-ok T o e in
+    let ok = op-passed T o e in
     record {
       start = omega (arith, ok .fits);
       dur = omega (arith, ok .fits);

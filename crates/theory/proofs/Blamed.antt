@@ -11,12 +11,12 @@ use lib.ListN.{length, getD, drop}
 use lib.Seq.{drop-drop}
 use borrow.Author.Tests.{eqb-false, lt-ltb, not-true}
 use Rattle.rules.specs.Table.{Op, Table}
-use Rattle.rules.specs.Rows.{Ticks, Row, ticks}
+use Rattle.rules.specs.Rows.{Ticks, ticks}
 use Rattle.rules.specs.Verdicts.{Verdict, accepted, refused, SHORT, ORDER, SIZE, RANGE, MANY, CLASH, RACE, refuseIf, _then_, more}
 use Rattle.rules.specs.Bytes.{num8, num16, num32, words, opAt, rowAt}
 use Rattle.rules.specs.Judge.{needed, header, due, sized, complete, notMany, ranged, fieldTest, repeatTest, fieldsFrom, Number, firstWrong, lenRanges, lenWrong, countRanges, countsWrong, setRanges, setsWrong, opRanges, opWrong, clashes, races, pairsTest, judgeWhole, headOf, withOps, opsPlace, headTest, opsFrom, judge, Numbers, opOfNumbers, headOfNumbers, numbersTest, opsOfNumbers, judgeNumbers, rowRanges, rowWrong, rowsFrom, judgeReply}
 use Rattle.theory.specs.Numbers.{opAmong}
-use Rattle.theory.specs.Blamed.{bytesBefore, among, Names, numberAt, ReadFrom, Blames, length-wrong, count-wrong, set-wrong, step-wrong, ReplyBlames, period-wrong, row-wrong}
+use Rattle.theory.specs.Blamed.{bytesBefore, among, Names, numberAt, ReadFrom, stepAt, rowThere, Blames, length-wrong, count-wrong, set-wrong, step-wrong, ReplyBlames, period-wrong, row-wrong}
 use Rattle.theory.proofs.Says.{clash-bool}
 use Rattle.theory.proofs.Verdicts.{never-refused, passed, fault-refused, then-first, then-refused, onwards-refused, more-refused}
 use Rattle.theory.proofs.Ranges.{first-told, told-first, range-passed}
@@ -38,11 +38,11 @@ module _ {A B : Type 0} where
       → (x : A) × (v ≡ accepted x) × (w ≡ refused RANGE a b)
   behind v w {a} {b} other e = then-refused v w e (λ h. absurd (other a b h)) (λ x h r. (x, h, r))
 
-  pub other-then : (v : Verdict A) (w : Verdict B) → Other v → Other w → Other (v then w)
+  other-then : (v : Verdict A) (w : Verdict B) → Other v → Other w → Other (v then w)
   other-then v w f g a b e = let (_, _, h) = behind v w f e in g a b h
 
 -- what is accepted is no refusal
-pub other-accepted : {A : Type 0} (x : A) → Other (accepted x)
+other-accepted : {A : Type 0} (x : A) → Other (accepted x)
 other-accepted x a b e = never-refused (sym e)
 
 module _ (s : List ℕ) (at : ℕ) where
@@ -222,10 +222,6 @@ module _ (H : Table) (step : ℕ → Op) {a b : ℕ} where
 
 -- ---- a table's bytes
 
--- the operation whose field comes as number k
-abbrev pub stepAt : List ℕ → ℕ → Op
-stepAt s k = opAt s (opsPlace (headOf s .modes) + 21 * k)
-
 module _ (s : List ℕ) {a b : ℕ} where
   head-blames : headTest s ≡ refused RANGE a b → Blames (headOf s) (stepAt s) a b
   head-blames e =
@@ -281,10 +277,6 @@ module _ (N : Numbers) {a b : ℕ} where
 
 -- ---- a reply's bytes
 
--- the row whose field comes as number k
-abbrev pub rowThere : List ℕ → ℕ → Row
-rowThere s k = rowAt s (5 + 7 * k)
-
 module _ (s : List ℕ) {a b : ℕ} where
   period-blames : ranged (lenWrong (num16 s 3)) 0 ≡ refused RANGE a b → ReplyBlames (ticks (num16 s 3)) (rowThere s) a b
   unfolding lenWrong
@@ -316,8 +308,9 @@ names-one ns a b c x y = sym (told-first (a + 3) ns b x) ∙ told-first (a + 3) 
 -- ---- each number is the one that the bytes have where it begins
 
 module _ (s : List ℕ) where
-  pub len-read : ReadFrom s 3 (lenRanges (headOf s .len))
-  unfolding headOf ReadFrom
+  -- field 01, and a reply's 11
+  pub len-read : ReadFrom s 3 (lenRanges (num16 s 3))
+  unfolding ReadFrom
   len-read = (refl, tt)
 
   pub counts-read : ReadFrom s 8 (countRanges (headOf s .boards) (headOf s .cells) (headOf s .modes))
@@ -350,7 +343,7 @@ module _ (s : List ℕ) where
   unfolding ReadFrom
   row-read q at = (refl, (ap (num16 s) (omega arith), tt))
 
-  -- number k, and so the one that is named: its bytes begin at the offset that is told
+  -- number k, and so the one that is named, stands where it begins
   read-at : (k place : ℕ) (ns : List Number) → k < length ns → ReadFrom s place ns
       → among ns k .value ≡ numberAt (among ns k .bytes) s (place + bytesBefore k ns)
   unfolding ReadFrom bytesBefore
@@ -359,15 +352,26 @@ module _ (s : List ℕ) where
   read-at (suc k) place (n ∷ ns) h x =
       read-at k (place + n .bytes) ns (omega arith) (x .1) ∙ ap (numberAt (among ns k .bytes) s) (omega arith)
 
+  -- "the offset of the first byte of the first wrong number", for each of the lists that `Blames` and `ReplyBlames` name
   pub named-read : (ns : List Number) (a b : ℕ) → ReadFrom s (a + 3) ns → (x : Names ns a b)
       → among ns (x .which) .value ≡ numberAt (among ns (x .which) .bytes) s b
   named-read ns a b read x = read-at (x .which) (a + 3) ns (x .there) read ∙ ap (numberAt (among ns (x .which) .bytes) s) (sym (x .begins))
 
--- ---- "an operation that ends after p blames its duration": in bytes no start is ever blamed, whatever it is
-pub no-start-blamed : (s : List ℕ) → ((i : ℕ) → getD s i 0 < 256) → (T : Table) (at a b : ℕ) → Names (opRanges T (opAt s at)) a b → a + 5 ≤ b
-unfolding bytesBefore
-no-start-blamed s bytes T at a b x = go (x .which) (x .begins) (x .wrong)
-  where
-    go : (k : ℕ) → b ≡ a + 3 + bytesBefore k (opRanges T (opAt s at)) → among (opRanges T (opAt s at)) k .ok ≡ false → a + 5 ≤ b
-    go zero e wrong = clash-bool (lt-ltb (opAt s at .start) 65536 (omega (arith, bytes (at + 3), bytes (at + 3 + 1)))) wrong
-    go (suc k) e wrong = omega arith
+  -- "an operation that ends after p blames its duration": no start is ever blamed in bytes, whatever it is
+  starts-fit : ((i : ℕ) → getD s i 0 < 256) → (T : Table) (at a b : ℕ) → Names (opRanges T (opAt s at)) a b → a + 5 ≤ b
+  unfolding bytesBefore
+  starts-fit bytes T at a b x = go (x .which) (x .begins) (x .wrong)
+    where
+      go : (k : ℕ) → b ≡ a + 3 + bytesBefore k (opRanges T (opAt s at)) → among (opRanges T (opAt s at)) k .ok ≡ false → a + 5 ≤ b
+      go zero e wrong = clash-bool (lt-ltb (opAt s at .start) 65536 (omega (arith, bytes (at + 3), bytes (at + 3 + 1)))) wrong
+      go (suc k) e wrong = omega arith
+
+  unblamed : ((i : ℕ) → getD s i 0 < 256) → {a b : ℕ} → 11 < a → Blames (headOf s) (stepAt s) a b → a + 5 ≤ b
+  unblamed bytes far (length-wrong e x) = absurd (omega arith)
+  unblamed bytes far (count-wrong _ e x) = absurd (omega arith)
+  unblamed bytes far (set-wrong _ _ e x) = absurd (omega arith)
+  unblamed bytes {a} {b} far (step-wrong _ _ _ k _ _ e x) = starts-fit bytes (headOf s) (opsPlace (headOf s .modes) + 21 * k) a b x
+
+  -- behind field 03, which is at 11, stand the operations
+  pub no-start-blamed : ((i : ℕ) → getD s i 0 < 256) → {a b : ℕ} → judge s ≡ refused RANGE a b → 11 < a → a + 5 ≤ b
+  no-start-blamed bytes e far = unblamed bytes far (judge-blames s e)

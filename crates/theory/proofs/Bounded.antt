@@ -166,12 +166,12 @@ module _ (s : List ℕ) where
   head-bounded : Bounded (headTest s)
   head-bounded =
       rw (head-row s)
-      (bounded-then _ _ (field-bounded s 0 (omega arith) 1 2 _ (omega (arith, len-within (headOf s .len))))
+      (bounded-then _ _ (field-bounded s 0 (omega arith) 1 2 _ (omega (arith, len-within (headOf s .len) refl)))
       (λ _ _. bounded-then _ _
-      (field-bounded s 5 (omega arith) 2 3 _ (omega (arith, counts-within (headOf s .boards) (headOf s .cells) (headOf s .modes))))
+      (field-bounded s 5 (omega arith) 2 3 _ (omega (arith, counts-within (headOf s .boards) (headOf s .cells) (headOf s .modes) refl)))
       (λ _ e.
       let few = modes-few (headOf s) (field-passed s 5 2 3 _ e .1) in
-      let sets = sets-within (headOf s .modes) (headOf s .first ∷ headOf s .follow) in
+      let sets = sets-within (headOf s .modes) (headOf s .first ∷ headOf s .follow) refl in
       bounded-then _ _ (field-bounded s 11 (omega arith) 3 _ _ (omega (arith, sets, words))) (λ _ _. needed-bounded s (opsPlace (headOf s .modes)) (omega arith)))))
 
   pub judge-bounded : Bounded (judge s)
@@ -181,7 +181,7 @@ module _ (s : List ℕ) where
       (bounded-then _ _ head-bounded
       (λ _ e.
       let few = modes-few (headOf s) (head-ok s e .0 .counts) in
-      bounded-onwards _ _ (fields-bounded 4 18 (opWrong (headOf s)) opAt s (op-within (headOf s)) 32 (opsPlace (headOf s .modes)) (omega arith))
+      bounded-onwards _ _ (fields-bounded 4 18 (opWrong (headOf s)) opAt s (λ o. op-within (headOf s) o refl) 32 (opsPlace (headOf s .modes)) (omega arith))
       (λ os come. whole-bounded (withOps (headOf s) os) (fields-passing 4 18 (opWrong (headOf s)) opAt s noOp 32 _ os come .few))))
 
 -- ---- a table handed over as numbers
@@ -195,22 +195,22 @@ ops-bounded T ns (suc left) at h =
     rw (numbers-next T ns left at)
     (bounded-cond (eqb (length ns) 0) (accepted []) _ (bounded-accepted [])
     (bounded-then _ _ (place-bounded at (omega arith) (ltb (length ns) 6) SHORT (omega arith) (omega arith))
-    (λ _ _. bounded-then _ _ (ranged-bounded (opWrong T (opOfNumbers ns)) at (omega (arith, op-within T (opOfNumbers ns))))
+    (λ _ _. bounded-then _ _ (ranged-bounded (opWrong T (opOfNumbers ns)) at (omega (arith, op-within T (opOfNumbers ns) refl)))
     (λ _ _. bounded-more (opOfNumbers ns) _ (ops-bounded T (drop 6 ns) left (at + 21) (omega arith))))))
 
 module _ (N : Numbers) where
   first-bounded : Bounded (numbersTest N)
   first-bounded =
       rw (numbers-row N)
-      (bounded-then _ _ (ranged-bounded (lenWrong (N .len)) 0 (omega (arith, len-within (N .len))))
+      (bounded-then _ _ (ranged-bounded (lenWrong (N .len)) 0 (omega (arith, len-within (N .len) refl)))
       (λ _ _. bounded-then _ _
-      (ranged-bounded (countsWrong (N .boards) (N .cells) (N .modes)) 5 (omega (arith, counts-within (N .boards) (N .cells) (N .modes))))
+      (ranged-bounded (countsWrong (N .boards) (N .cells) (N .modes)) 5 (omega (arith, counts-within (N .boards) (N .cells) (N .modes) refl)))
       (λ _ e.
       let few = modes-few (headOfNumbers N) (range-passed _ 5 e) in
       bounded-then _ _ (place-bounded 11 (omega arith) (not (eqb (length (N .follow)) (N .modes))) SIZE (omega arith) (omega arith))
       (λ _ c.
       let count : length (N .follow) ≡ N .modes = eqb-true _ _ (not-false _ (passed _ SIZE 11 0 c)) in
-      let sets = sets-within (N .modes) (N .first ∷ N .follow) in
+      let sets = sets-within (N .modes) (N .first ∷ N .follow) refl in
       bounded-then _ _ (ranged-bounded (setsWrong (N .modes) (N .first ∷ N .follow)) 11 (omega (arith, sets, count)))
       (λ _ _. place-bounded (opsPlace (N .modes)) (omega arith) (eqb (length (N .ops)) 0) ORDER (omega arith) (omega arith))))))
 
@@ -229,8 +229,8 @@ pub reply-bounded : (s : List ℕ) → Bounded (judgeReply s)
 unfolding rowsFrom
 reply-bounded s =
     rw (reply-row s)
-    (bounded-then _ _ (bounded-then _ _ (field-bounded s 0 (omega arith) 17 2 _ (omega (arith, len-within (num16 s 3)))) (λ _ _. needed-bounded s 5 (omega arith)))
-    (λ _ _. bounded-onwards _ _ (fields-bounded 18 4 (rowWrong (ticks (num16 s 3))) rowAt s (row-within (ticks (num16 s 3))) 32 5 (omega arith)) (λ rs _. bounded-accepted _)))
+    (bounded-then _ _ (bounded-then _ _ (field-bounded s 0 (omega arith) 17 2 _ (omega (arith, len-within (num16 s 3) refl))) (λ _ _. needed-bounded s 5 (omega arith)))
+    (λ _ _. bounded-onwards _ _ (fields-bounded 18 4 (rowWrong (ticks (num16 s 3))) rowAt s (λ r. row-within (ticks (num16 s 3)) r refl) 32 5 (omega arith)) (λ rs _. bounded-accepted _)))
 
 -- a refusal of a table's bytes
 pub figures-small : (s : List ℕ) (n a b : ℕ) → judge s ≡ refused n a b → Small n a b

@@ -103,7 +103,7 @@ reply-size T q = reply-length (replyOf T q) ∙ rw (length-map (T .ops) _)
 
 -- ---- a field that is there
 
-module _ (s : List ℕ) (at tag size : ℕ) (wrong : ℕ) (t : num8 s at ≡ tag) where
+module _ (s : List ℕ) (at tag size wrong : ℕ) (t : num8 s at ≡ tag) where
   -- one of another length
   pub field-size : at + 3 ≤ length s → (num16 s (at + 1) ≡ size → ⊥) → fieldTest s at tag size wrong ≡ refused SIZE at 0
   unfolding fieldTest

@@ -88,7 +88,7 @@ module _ (s : List ℕ) (small : (i : ℕ) → i < length s → getD s i 0 < 256
   unfolding sized
   sized-passed at size e = eqb-true (num16 s (at + 1)) size (not-false _ (passed _ SIZE at 0 e))
 
-  field-header : (at tag size : ℕ) (wrong : ℕ) → fieldTest s at tag size wrong ≡ accepted tt → Header at tag size
+  field-header : (at tag size wrong : ℕ) → fieldTest s at tag size wrong ≡ accepted tt → Header at tag size
   field-header at tag size wrong e =
       let e2 = then-rest _ _ (then-rest _ _ (sym (field-row s at tag size wrong) ∙ e)) in
       record {
@@ -97,7 +97,7 @@ module _ (s : List ℕ) (small : (i : ℕ) → i < length s → getD s i 0 < 256
         whole = field-passed s at tag size wrong e .0;
       }
 
-  repeat-header : (at left tag size : ℕ) (wrong : ℕ) → repeatTest s at left tag size wrong ≡ accepted tt → Header at tag size
+  repeat-header : (at left tag size wrong : ℕ) → repeatTest s at left tag size wrong ≡ accepted tt → Header at tag size
   repeat-header at left tag size wrong e =
       let e1 = then-rest _ _ (sym (repeat-row s at tag size wrong left) ∙ e) in
       record {

@@ -65,9 +65,9 @@ says-set n s =
     (λ x. (x .some, x .small))
 
 -- no number of an operation is wrong exactly where it is in its ranges; a start fits its field where the operation ends by p
-pub op-ok : (T : Table) (o : Op) → opWrong T o ≡ 0 → OpOk T o
+pub op-passed : (T : Table) (o : Op) → opWrong T o ≡ 0 → OpOk T o
 unfolding opWrong All
-op-ok T o e =
+op-passed T o e =
     let (_, (d, (b, (r, (w, (m, _)))))) = none-wrong (opRanges T o) .0 e in
     let (lasts, fits) = says-and _ _ (says-leb 1 (o .dur)) (says-leb (o .start + o .dur) (T .len)) .0 d in
     record {
@@ -79,9 +79,9 @@ op-ok T o e =
       modes = says-set (T .modes) (o .modes) .0 m;
     }
 
-pub ok-op : (T : Table) (o : Op) → T .len ≤ 1000 → OpOk T o → opWrong T o ≡ 0
+pub op-passes : (T : Table) (o : Op) → T .len ≤ 1000 → OpOk T o → opWrong T o ≡ 0
 unfolding opWrong All
-ok-op T o short x =
+op-passes T o short x =
     none-wrong (opRanges T o) .1 (
       lt-ltb (o .start) 65536 (omega (arith, x .fits)),
       (
@@ -260,7 +260,7 @@ whole-accepted T U e =
 
 -- ---- one field
 
-module _ (s : List ℕ) (at tag size : ℕ) (wrong : ℕ) where
+module _ (s : List ℕ) (at tag size wrong : ℕ) where
   -- the rows of tests that the two kinds of field are
   pub field-row : fieldTest s at tag size wrong ≡ (needed s at then header s at then due s at tag then sized s at size then complete s at size then ranged wrong at)
   unfolding fieldTest
@@ -439,7 +439,7 @@ whole-ok H os unit room T head some ops e =
       firsts = sets 0 (omega arith);
       words = head .words;
       follows = λ a h. sets (suc a) (omega (arith, head .words));
-      each = λ i h. op-ok (withOps H os) (getD os i noOp) (ops .each i h);
+      each = λ i h. op-passed (withOps H os) (getD os i noOp) (ops .each i h);
       no-clash = no-clash;
       no-race = no-race;
     })

@@ -3,7 +3,7 @@
 -- Assumes nothing.
 use Prim.Native.Nat.{ℕ, zero, suc, _+_, _-_, _*_, _^_, _<_, _≤_}
 use mathlib.Core.Path.{_≡_, refl, sym, ap, subst, _∙_}
-use mathlib.Core.Bool.{Bool, not, _&&_}
+use mathlib.Core.Bool.{Bool, not}
 use mathlib.Core.List.{List, [], _∷_, _++_, append-assoc}
 use native.Mathlib.Decide.{ℕ-discrete}
 use native.Mathlib.Omega.{arith}
@@ -15,11 +15,11 @@ use borrow.Author.Tests.{le-leb, lt-leb, le-ltb, lt-ltb, eq-eqb, ne-eqb}
 use Rattle.rules.specs.Table.{Op, Table, noOp, nops, op, SetOf, Accepted}
 use Rattle.rules.specs.Verdicts.{Verdict, accepted, refused, SHORT, SIZE, ORDER, MANY, RANGE, refuseIf, _then_, onwards, more}
 use Rattle.rules.specs.Bytes.{num8, num16, num32, words, be32, joined, opAt, opBytes, headBytes, tableBytes}
-use Rattle.rules.specs.Judge.{needed, notMany, ranged, fieldTest, repeatTest, fieldsFrom, number, lenWrong, countsWrong, setsWrong, opWrong, judgeWhole, headOf, withOps, opsPlace, headTest, opsFrom, judge, Numbers, opOfNumbers, headOfNumbers, numbersTest, opsOfNumbers, judgeNumbers}
+use Rattle.rules.specs.Judge.{needed, notMany, ranged, fieldTest, repeatTest, fieldsFrom, lenWrong, countsWrong, setsWrong, opWrong, judgeWhole, headOf, withOps, opsPlace, headTest, opsFrom, judge, Numbers, opOfNumbers, headOfNumbers, numbersTest, opsOfNumbers, judgeNumbers}
 use Rattle.theory.specs.Numbers.{opNumbers, numbersOf, opsBytes, numbersBytes, CountsFit, SetsFit, OpFits, opAmong, NumbersFit}
 use Rattle.theory.proofs.Verdicts.{passes, refuses, then-accepts, then-refuses, then-same, onwards-accepts, onwards-refuses, more-refuses}
-use Rattle.theory.proofs.Ranges.{wrong-here, ranged-yes, ranged-no}
-use Rattle.theory.proofs.Judging.{HeadOk, says-sets, op-ok, ok-op, says-len, says-counts, whole-accepts, numbers-end, numbers-next, numbers-row, judgeNumbers-row, numbers-ok}
+use Rattle.theory.proofs.Ranges.{len-high, ranged-yes, ranged-no}
+use Rattle.theory.proofs.Judging.{HeadOk, says-sets, op-passed, op-passes, says-len, says-counts, whole-accepts, numbers-end, numbers-next, numbers-row, judgeNumbers-row, numbers-ok}
 use Rattle.theory.proofs.Bytes.{past8, past16, two-bytes, four-bytes, words-back, op-back, joined-length, words-length, head-length, field-size, field-whole, field-many, field-more, no-field, fieldsOf, fields-accepted, first-tag, first-whole, first-size, op-repeated}
 
 -- ---- the operations' numbers
@@ -294,7 +294,7 @@ op-fits : (H : Table) → lenWrong (H .len) ≡ 0 → countsWrong (H .boards) (H
 op-fits H len counts o h =
     let (_, short) = says-len (H .len) .0 len in
     let (_, (boards, (cells, (_, modes)))) = says-counts (H .boards) (H .cells) (H .modes) .0 counts in
-    let x = op-ok H o h in
+    let x = op-passed H o h in
     record {
       start = omega (arith, x .fits);
       dur = omega (arith, x .fits);
@@ -305,11 +305,6 @@ op-fits H len counts o h =
     }
 
 -- ---- what is refused, and where
-
--- a length above 1000 is the only number of its field
-len-wrong : (p : ℕ) → 1000 < p → lenWrong p ≡ 3
-unfolding lenWrong
-len-wrong p h = wrong-here 3 (number 2 p (λ n. leb 1 n && leb n 1000)) [] (simp (le-leb 1 p (omega arith), lt-leb p 1000 h))
 
 module _ (N : Numbers) where
   abbrev LenGood : Type 0
@@ -325,7 +320,7 @@ module _ (N : Numbers) where
   -- "A number too large for its field": p
   pub len-too-large : 65536 ≤ N .len → judgeNumbers N ≡ refused RANGE 0 3
   len-too-large large =
-      let wrong = len-wrong (N .len) (omega arith) in
+      let wrong = len-high (N .len) (omega arith) in
       let place : 0 + lenWrong (N .len) ≡ 3 = omega (arith, wrong) in
       head-refused (numbers-row N ∙ then-refuses _ (ranged-no _ 0 (λ e. omega (arith, wrong)) ∙ ap (refused RANGE 0) place))
 
@@ -496,7 +491,7 @@ module _ (T : Table) (ok : Accepted T) where
       set (suc a) h = ok .follows a (omega (arith, ok .words))
 
   accepted-ops : (i : ℕ) → i < nops T → opWrong T (op T i) ≡ 0
-  accepted-ops i h = ok-op T (op T i) (ok .len-high) (ok .each i h)
+  accepted-ops i h = op-passes T (op T i) (ok .len-high) (ok .each i h)
 
   pub accepted-numbers : judgeNumbers (numbersOf T) ≡ accepted T
   accepted-numbers = ranges-numbers T accepted-head (ok .ops-low) (ok .ops-high) accepted-ops ∙ whole-accepts T ok

@@ -22,7 +22,7 @@ use Rattle.theory.specs.RangeBefore as before
 use Rattle.theory.proofs.Says.{Says, clash-bool, says-by, says-leb, says-ltb, says-and}
 use Rattle.theory.proofs.Verdicts.{never-refused, passes, refuses, then-same}
 use Rattle.theory.proofs.Ranges.{ranged-yes, ranged-no}
-use Rattle.theory.proofs.Judging.{says-set, sets-more, op-ok, ok-op, says-sets, says-len, says-counts, field-row, repeat-row, fields-end, fields-next, head-row, head-ok, judge-row, numbers-end, numbers-next, numbers-row, numbers-ok, judgeNumbers-row}
+use Rattle.theory.proofs.Judging.{says-set, sets-more, op-passed, op-passes, says-sets, says-len, says-counts, field-row, repeat-row, fields-end, fields-next, head-row, head-ok, judge-row, numbers-end, numbers-next, numbers-row, numbers-ok, judgeNumbers-row}
 use Rattle.theory.proofs.Replies.{says-row, reply-row}
 use Rattle.theory.proofs.Blamed.{Other, other-if, needed-other, header-other, due-other, sized-other, complete-other, many-other, whole-other}
 
@@ -158,7 +158,7 @@ sets-agree n s ss =
 
 -- a start had no test of its own, and needs none where the operation ends by p
 op-agree : (T : Table) → T .len ≤ 1000 → (o : Op) → Agree (opOk T o) (opWrong T o)
-op-agree T short o = agree says (op-ok T o, ok-op T o short)
+op-agree T short o = agree says (op-passed T o, op-passes T o short)
   where
     says : Says (opOk T o) (OpOk T o)
     says =

@@ -1,18 +1,21 @@
--- The first wrong number of a field: none is wrong exactly where each is in its range, and where one is, the first begins where it says.
+-- The first wrong number of a field: none is wrong exactly where each is in its range, and where one is, the first begins where it says; which
+-- one that is, field by field; and the test of ranges.
 -- Assumes nothing.
 use Prim.Native.Nat.{ℕ, zero, suc, _+_, _*_, _<_, _≤_}
 use mathlib.Core.Path.{_≡_, refl, sym, ap, _∙_}
 use mathlib.Core.Bool.{true, false, not}
 use mathlib.Core.List.{List, [], _∷_}
 use mathlib.Core.Logic.{_↔_}
+use native.Mathlib.Numerals.{add-one}
 use native.Mathlib.Omega.{arith}
 use lib.Dec.{eqb}
-use lib.ListN.{length}
+use lib.ListN.{length, getD, drop, drop-of-length-le}
+use lib.Seq.{drop-cons}
 use borrow.Author.Tests.{lt-leb, le-leb, lt-ltb, le-ltb, eq-eqb, ne-eqb, eqb-true, not-false}
 use Rattle.rules.specs.Table.{Op, Table}
 use Rattle.rules.specs.Rows.{Ticks, Row, unfoldAt}
 use Rattle.rules.specs.Verdicts.{accepted, refused, RANGE}
-use Rattle.rules.specs.Judge.{Number, wrongFrom, firstWrong, ranged, lenRanges, lenWrong, countRanges, countsWrong, setRanges, setsWrong, opRanges, opWrong, rowRanges, rowWrong}
+use Rattle.rules.specs.Judge.{Number, number, wrongFrom, firstWrong, ranged, lenRanges, lenWrong, countRanges, countsWrong, setOk, setRanges, setsWrong, opRanges, opWrong, rowRanges, rowWrong}
 use Rattle.rules.specs.Bench.{All}
 use Rattle.theory.specs.Blamed.{bytesBefore, among, FirstFrom}
 use Rattle.theory.proofs.Says.{Known, holds, fails, known}
@@ -106,13 +109,13 @@ wrong-within place (n ∷ ns) = go (known (n .ok)) (wrong-within (place + n .byt
 
 -- so what is told lies in its field, or just behind it
 
-pub len-within : (p : ℕ) → lenWrong p ≤ 5
+pub len-within : (p : ℕ) {w : ℕ} → w ≡ lenWrong p → w ≤ 5
 unfolding lenWrong bytesBefore
-len-within p = wrong-within 3 (lenRanges p)
+len-within p e = omega (arith, e, wrong-within 3 (lenRanges p))
 
-pub counts-within : (boards cells modes : ℕ) → countsWrong boards cells modes ≤ 6
+pub counts-within : (boards cells modes : ℕ) {w : ℕ} → w ≡ countsWrong boards cells modes → w ≤ 6
 unfolding countsWrong bytesBefore
-counts-within boards cells modes = wrong-within 3 (countRanges boards cells modes)
+counts-within boards cells modes e = omega (arith, e, wrong-within 3 (countRanges boards cells modes))
 
 -- each set has four bytes
 sets-bytes : (n : ℕ) (ss : List ℕ) → bytesBefore (length (setRanges n ss)) (setRanges n ss) ≡ 4 * length ss
@@ -120,19 +123,54 @@ unfolding bytesBefore
 sets-bytes n [] = refl
 sets-bytes n (s ∷ ss) = omega (arith, sets-bytes n ss)
 
-pub sets-within : (n : ℕ) (ss : List ℕ) → setsWrong n ss ≤ 3 + 4 * length ss
+pub sets-within : (n : ℕ) (ss : List ℕ) {w : ℕ} → w ≡ setsWrong n ss → w ≤ 3 + 4 * length ss
 unfolding setsWrong firstWrong
-sets-within n ss = omega (arith, wrong-within 3 (setRanges n ss), sets-bytes n ss)
+sets-within n ss e = omega (arith, e, wrong-within 3 (setRanges n ss), sets-bytes n ss)
 
-pub op-within : (T : Table) (o : Op) → opWrong T o ≤ 21
+pub op-within : (T : Table) (o : Op) {w : ℕ} → w ≡ opWrong T o → w ≤ 21
 unfolding opWrong bytesBefore
-op-within T o = wrong-within 3 (opRanges T o)
+op-within T o e = omega (arith, e, wrong-within 3 (opRanges T o))
 
-pub row-within : (q : Ticks) (r : Row) → rowWrong q r ≤ 7
+pub row-within : (q : Ticks) (r : Row) {w : ℕ} → w ≡ rowWrong q r → w ≤ 7
 unfolding rowWrong bytesBefore
-row-within q r = wrong-within 3 (rowRanges q r)
+row-within q r e = omega (arith, e, wrong-within 3 (rowRanges q r))
+
+-- ---- sets one after the other: which is wrong first from set i on, when the first of all begins at a place
+
+abbrev pub setsFrom : ℕ → ℕ → List ℕ → ℕ → ℕ
+setsFrom place n ss i = wrongFrom (place + 4 * i) (setRanges n (drop i ss))
+
+pub sets-start : (n : ℕ) (ss : List ℕ) → setsWrong n ss ≡ setsFrom 3 n ss 0
+unfolding setsWrong
+sets-start n ss = refl
+
+module _ (place n : ℕ) (ss : List ℕ) (i : ℕ) where
+  module _ (h : i < length ss) where
+    set-next : setRanges n (drop i ss) ≡ number 4 (getD ss i 0) (setOk n) ∷ setRanges n (drop (i + 1) ss)
+    set-next = rw (drop-cons ss i 0 h, add-one)
+
+    pub set-wrong : setOk n (getD ss i 0) ≡ false → setsFrom place n ss i ≡ place + 4 * i
+    set-wrong e = ap (wrongFrom (place + 4 * i)) set-next ∙ wrong-here (place + 4 * i) _ _ e
+
+    pub set-fine : setOk n (getD ss i 0) ≡ true → setsFrom place n ss i ≡ setsFrom place n ss (i + 1)
+    set-fine e =
+        let next : place + 4 * i + 4 ≡ place + 4 * (i + 1) = omega arith in
+        ap (wrongFrom (place + 4 * i)) set-next ∙ wrong-later (place + 4 * i) _ _ e ∙ rw next
+
+  pub sets-end : length ss ≤ i → setsFrom place n ss i ≡ 0
+  unfolding wrongFrom
+  sets-end h = rw (drop-of-length-le ss h)
 
 -- ---- the request's sentences: which number is blamed
+
+-- a length that is out of its range is the only number of its field
+pub len-low : (p : ℕ) → p < 1 → lenWrong p ≡ 3
+unfolding lenWrong
+len-low p h = rw (lt-leb 1 p h)
+
+pub len-high : (p : ℕ) → 1000 < p → lenWrong p ≡ 3
+unfolding lenWrong
+len-high p h = let low : 1 ≤ p = omega arith in rw (le-leb 1 p low, lt-leb p 1000 h)
 
 module _ (T : Table) (o : Op) where
   -- a start too large for its field

@@ -9,8 +9,8 @@ use lib.Dec.{eqb}
 use lib.ListN.{length, getD}
 use Rattle.rules.specs.Table.{Op, Table}
 use Rattle.rules.specs.Rows.{Ticks, Row}
-use Rattle.rules.specs.Bytes.{num8, num16, num32}
-use Rattle.rules.specs.Judge.{Number, number, lenRanges, lenWrong, countRanges, countsWrong, setRanges, setsWrong, opRanges, opWrong, rowRanges, rowWrong, opsPlace}
+use Rattle.rules.specs.Bytes.{num8, num16, num32, opAt, rowAt}
+use Rattle.rules.specs.Judge.{Number, number, lenRanges, lenWrong, countRanges, countsWrong, setRanges, setsWrong, opRanges, opWrong, rowRanges, rowWrong, headOf, opsPlace}
 
 -- how many bytes the numbers before number k have: it begins that far behind the first
 unfoldable pub bytesBefore : ℕ → List Number → ℕ
@@ -54,8 +54,16 @@ pub data Blames (H : Table) (step : ℕ → Op) (a b : ℕ) : Type 0 where
       → (k : ℕ) → k < 32 → ((j : ℕ) → j < k → opWrong H (step j) ≡ 0) → a ≡ opsPlace (H .modes) + 21 * k
       → Names (opRanges H (step k)) a b → Blames H step a b
 
+-- the operation whose field comes as number k in a table's bytes
+abbrev pub stepAt : List ℕ → ℕ → Op
+stepAt s k = opAt s (opsPlace (headOf s .modes) + 21 * k)
+
 -- likewise of a reply, by its period and by each row
 pub data ReplyBlames (q : Ticks) (row : ℕ → Row) (a b : ℕ) : Type 0 where
   period-wrong : a ≡ 0 → Names (lenRanges (q .number)) a b → ReplyBlames q row a b
   row-wrong : lenWrong (q .number) ≡ 0 → (k : ℕ) → k < 32 → ((j : ℕ) → j < k → rowWrong q (row j) ≡ 0) → a ≡ 5 + 7 * k
       → Names (rowRanges q (row k)) a b → ReplyBlames q row a b
+
+-- the row whose field comes as number k in a reply's bytes
+abbrev pub rowThere : List ℕ → ℕ → Row
+rowThere s k = rowAt s (5 + 7 * k)

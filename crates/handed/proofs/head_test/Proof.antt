@@ -5,7 +5,8 @@ use mathlib.Core.Path.{sym, ap, _∙_}
 use native.Mathlib.Omega.{arith}
 use borrow.Author.Needs.{needs}
 use Rattle.rules.specs.Verdicts.{refused, ORDER}
-use Rattle.handed.specs.HeadLaws.{test-len, test-counts, test-size, test-sets, test-none, test-some, counts-near, sets-near, counts-small}
+use Rattle.theory.proofs.Ranges.{counts-within, sets-within}
+use Rattle.handed.specs.HeadLaws.{test-len, test-counts, test-size, test-sets, test-none, test-some, counts-small}
 use Rattle.handed.proofs.head_test.Statement.{statement}
 use Rattle.handed.proofs.head_test.Tie as tie
 
@@ -19,7 +20,7 @@ counts-wrong-requires : tie.Need-counts-wrong-requires
 counts-wrong-requires c κs = search needs
 
 add-t13 : tie.Need-add-t13
-add-t13 c = omega (arith, counts-near _ _ _ (c .before .counts-wrong .ensures))
+add-t13 c = omega (arith, counts-within _ _ _ (c .before .counts-wrong .ensures))
 
 returns-2 : tie.Need-returns-2
 returns-2 c =
@@ -51,7 +52,7 @@ add-t19 c =
     let x3 = c .before .before in
     let x2 = x3 .before in
     let small = counts-small _ _ _ (sym (x2 .before .counts-wrong .ensures) ∙ x2 .if2 .left) in
-    omega (arith, sets-near _ _ _ (c .before .sets-wrong .ensures) (omega (arith, small .few-modes, x3 .if3 .left)))
+    omega (arith, sets-within _ _ (c .before .sets-wrong .ensures), small .few-modes, x3 .if3 .left)
 
 returns-4 : tie.Need-returns-4
 returns-4 c =

@@ -1,19 +1,20 @@
 -- Which set is wrong first of all is which is first of those from word m on, until a wrong one or the end.
 -- Assumes nothing.
-use Prim.Native.Nat.{_+_, _*_, _-_, _<_, _≤_}
+use Prim.Native.Nat.{_-_, _<_, _≤_}
 use mathlib.Core.Path.{_≡_, sym, _∙_}
 use mathlib.Core.List.{_∷_}
 use native.Mathlib.Omega.{arith}
-use lib.ListN.{length, drop}
+use lib.ListN.{length}
 use borrow.Author.Needs.{needs}
 use borrow.Author.Tests.{not-true, not-false}
-use Rattle.rules.specs.Judge.{wrongFrom, setRanges, setsWrong}
-use Rattle.handed.specs.HeadLaws.{first-wrong, first-fine, word-wrong, word-fine, words-end}
+use Rattle.rules.specs.Judge.{setsWrong}
+use Rattle.theory.proofs.Ranges.{setsFrom, set-wrong, set-fine, sets-end}
+use Rattle.handed.specs.HeadLaws.{first-wrong, first-fine}
 use Rattle.handed.proofs.sets_wrong.Statement.{statement}
 use Rattle.handed.proofs.sets_wrong.Tie as tie
 
 abbrev Inv-loop : tie.InvT-loop
-Inv-loop modes first follow m₀ m = setsWrong modes (first ∷ follow) ≡ wrongFrom (7 + 4 * m) (setRanges modes (drop m follow))
+Inv-loop modes first follow m₀ m = setsWrong modes (first ∷ follow) ≡ setsFrom 7 modes follow m
 
 abbrev μ-loop : tie.MeasureT-loop
 μ-loop modes first follow m₀ m = length follow - m
@@ -47,7 +48,7 @@ returns-2 c =
     let i = c .before .before .before .before in
     let a = i .before .before .before .before .args in
     let h : i .loop .m < length (a .follow .now) = omega arith in
-    sym (i .loop .inv ∙ word-wrong (a .modes) (a .follow .now) (i .loop .m) h (sym (c .before .is-set-of2 .ensures) ∙ not-true _ (c .if2 .taken)))
+    sym (i .loop .inv ∙ set-wrong 7 (a .modes) (a .follow .now) (i .loop .m) h (sym (c .before .is-set-of2 .ensures) ∙ not-true _ (c .if2 .taken)))
 
 add-m : tie.Need-add-m Inv-loop μ-loop
 add-m c = omega arith
@@ -60,14 +61,14 @@ loop-again c =
     let i = c .before .before .before .before in
     let a = i .before .before .before .before .args in
     let h : i .loop .m < length (a .follow .now) = omega arith in
-    i .loop .inv ∙ word-fine (a .modes) (a .follow .now) (i .loop .m) h (sym (c .before .is-set-of2 .ensures) ∙ not-false _ (c .if2 .left))
+    i .loop .inv ∙ set-fine 7 (a .modes) (a .follow .now) (i .loop .m) h (sym (c .before .is-set-of2 .ensures) ∙ not-false _ (c .if2 .left))
 
 returns-3 : tie.Need-returns-3 Inv-loop μ-loop
 returns-3 c =
     let i = c .before in
     let a = i .before .before .before .before .args in
     let h : length (a .follow .now) ≤ i .loop .m = omega arith in
-    sym (i .loop .inv ∙ words-end (a .modes) (a .follow .now) (i .loop .m) (7 + 4 * i .loop .m) h)
+    sym (i .loop .inv ∙ sets-end 7 (a .modes) (a .follow .now) (i .loop .m) h)
 
 pub sets-wrong-spec : {M : Type 1} → statement M
 sets-wrong-spec =

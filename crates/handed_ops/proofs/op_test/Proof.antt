@@ -7,8 +7,8 @@ use lib.ListN.{drop, length-drop}
 use denote.Ref.{now}
 use borrow.Author.Needs.{needs}
 use Rattle.rules.specs.Judge.{ranged, opWrong}
+use Rattle.theory.proofs.Ranges.{op-within}
 use Rattle.ranges.specs.Ranges.{counted}
-use Rattle.ranges.specs.RangeLaws.{wrong-near}
 use Rattle.handed_ops.specs.OpsLaws.{op-there, op-many, op-short, op-whole}
 use Rattle.handed_ops.proofs.op_test.Statement.{statement}
 use Rattle.handed_ops.proofs.op_test.Tie as tie
@@ -31,7 +31,7 @@ wide-wrong-requires : tie.Need-wide-wrong-requires
 wide-wrong-requires c κs = search needs
 
 range-test-requires : tie.Need-range-test-requires
-range-test-requires c κs = omega (arith, wrong-near _ _ (c .wide-wrong .ensures))
+range-test-requires c κs = omega (arith, op-within _ _ (c .wide-wrong .ensures))
 
 returns-3 : tie.Need-returns-3
 returns-3 c =

@@ -40,11 +40,7 @@ counts-wrong-requires : tie.Need-counts-wrong-requires
 counts-wrong-requires c κs = search needs
 
 range-test-requires : tie.Need-range-test-requires
-range-test-requires c κs =
-    let b3 = c .before in
-    let b2 = b3 .before in
-    let b1 = b2 .before in
-    omega (arith, c .counts-wrong .ensures, counts-within (b1 .byte .result) (b2 .byte2 .result) (b3 .byte3 .result))
+range-test-requires c κs = omega (arith, counts-within _ _ _ (c .counts-wrong .ensures))
 
 returns : tie.Need-returns
 returns c = let f = c .before .before .before in field-bad _ _ _ _ _ (c .before .v .given .0 .0) (refused-as (f .field-at .ensures) (c .before .v .given .1))

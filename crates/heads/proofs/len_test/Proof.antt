@@ -29,7 +29,7 @@ len-wrong-requires : tie.Need-len-wrong-requires
 len-wrong-requires c κs = search needs
 
 range-test-requires : tie.Need-range-test-requires
-range-test-requires c κs = omega (arith, c .len-wrong .ensures, len-within (c .before .be16 .result))
+range-test-requires c κs = omega (arith, len-within _ (c .len-wrong .ensures))
 
 returns : tie.Need-returns
 returns c = let f = c .before .before .before in field-bad _ _ _ _ _ (c .before .v .given .0 .0) (refused-as (f .field-at .ensures) (c .before .v .given .1))

@@ -2,9 +2,11 @@
 -- Assumes nothing.
 use mathlib.Core.Path.{sym, _∙_}
 use native.Mathlib.Omega.{arith}
+use Prim.Native.Nat.{_+_}
+use Rattle.theory.proofs.Ranges.{sets-within}
+use Rattle.theory.proofs.Judging.{length-words}
 use Rattle.fields.specs.FieldLaws.{field-passed, field-bad, field-ranged}
 use Rattle.fields.specs.RefusalLaws.{passed-as, refused-as}
-use Rattle.heads.specs.WordLaws.{sets-near}
 use denote.Ref.{now}
 use borrow.Author.Needs.{needs}
 use Rattle.heads.proofs.modes_test.Statement.{statement}
@@ -33,7 +35,7 @@ sets-wrong-requires c κs =
 range-test-requires : tie.Need-range-test-requires
 range-test-requires c κs =
     let a = c .before .before .before .before .before .args in
-    omega (arith, c .sets-wrong .ensures, sets-near (now (a .s)) (a .modes) (a .modes))
+    omega (arith, sets-within _ _ (c .sets-wrong .ensures), length-words (now (a .s)) 14 (a .modes + 1))
 
 returns : tie.Need-returns
 returns c = let f = c .before .before .before in field-bad _ _ _ _ _ (c .before .v .given .0 .0) (refused-as (f .field-at .ensures) (c .before .v .given .1))

@@ -1,19 +1,23 @@
--- What is judged of all words is what is judged of those from word m on, since the words before are sets of modes.
+-- Which set is wrong first of all is which is first of those from word m on, until a wrong one or the end.
 -- Assumes nothing.
-use Prim.Native.Nat.{_+_, _-_, _*_, _≤_}
+use Prim.Native.Nat.{_+_, _-_, _<_, _≤_}
 use mathlib.Core.Bool.{true, false}
-use mathlib.Core.Path.{_≡_, refl, sym, ap, _∙_}
+use mathlib.Core.Path.{_≡_, sym, ap, _∙_}
 use native.Mathlib.Omega.{arith}
+use lib.ListN.{length, getD}
 use borrow.Author.Tests.{not-true, not-false}
 use denote.Ref.{now}
-use Rattle.rules.specs.Bytes.{num32, words}
-use Rattle.rules.specs.Judge.{wrongFrom, setOk, setRanges, setsWrong}
-use Rattle.heads.specs.WordLaws.{sets-all, sets-here, sets-next, sets-none}
+use Rattle.rules.specs.Bytes.{words}
+use Rattle.rules.specs.Judge.{setOk, setsWrong}
+use Rattle.theory.proofs.Ranges.{setsFrom, sets-start, set-wrong, set-fine, sets-end}
+use Rattle.theory.proofs.Judging.{length-words}
+use Rattle.heads.specs.WordLaws.{word-there}
 use Rattle.heads.proofs.sets_wrong.Statement.{statement}
 use Rattle.heads.proofs.sets_wrong.Tie as tie
 
 abbrev Inv-loop : tie.InvT-loop
-Inv-loop s modes n m₀ m = (m ≤ modes + 1) × (setsWrong modes (words s 14 (modes + 1)) ≡ wrongFrom (3 + 4 * m) (setRanges modes (words s (14 + 4 * m) (modes + 1 - m))))
+Inv-loop s modes n m₀ m =
+    (m ≤ modes + 1) × (setsWrong modes (words s 14 (modes + 1)) ≡ setsFrom 3 modes (words s 14 (modes + 1)) m)
 
 abbrev μ-loop : tie.MeasureT-loop
 μ-loop s modes n m₀ m = n - m
@@ -22,7 +26,7 @@ add-n : tie.Need-add-n Inv-loop μ-loop
 add-n c = omega arith
 
 loop-holds : tie.Need-loop-holds Inv-loop μ-loop
-loop-holds c = let a = c .before .args in (omega arith, sets-all (now (a .s)) (a .modes) 14 (a .modes + 1) 0 refl)
+loop-holds c = let a = c .before .args in (omega arith, sets-start (a .modes) (words (now (a .s)) 14 (a .modes + 1)))
 
 mul-be32 : tie.Need-mul-be32 Inv-loop μ-loop
 mul-be32 c = omega arith
@@ -49,10 +53,14 @@ returns : tie.Need-returns Inv-loop μ-loop
 returns c =
     let i = c .before .before .before .before in
     let a = i .before .before .args in
-    let e : setOk (a .modes) (num32 (now (a .s)) (14 + 4 * i .loop .m)) ≡ false =
-    ap (setOk (a .modes)) (sym (c .before .before .be32 .ensures)) ∙ sym (c .before .is-set-of .ensures) ∙ not-true _ (c .if1 .taken)
+    let ws = words (now (a .s)) 14 (a .modes + 1) in
+    let inside : i .loop .m < length ws = omega (arith, length-words (now (a .s)) 14 (a .modes + 1)) in
+    let e : setOk (a .modes) (getD ws (i .loop .m) 0) ≡ false =
+    ap (setOk (a .modes)) (word-there (now (a .s)) 14 (a .modes + 1) (i .loop .m) (omega arith) ∙ sym (c .before .before .be32 .ensures))
+    ∙ sym (c .before .is-set-of .ensures)
+    ∙ not-true _ (c .if1 .taken)
     in
-    sym (i .loop .inv .1 ∙ sets-here (now (a .s)) (a .modes) 14 (a .modes + 1) (i .loop .m) (omega arith) e)
+    sym (i .loop .inv .1 ∙ set-wrong 3 (a .modes) ws (i .loop .m) inside e)
 
 add-m : tie.Need-add-m Inv-loop μ-loop
 add-m c = omega arith
@@ -64,16 +72,22 @@ loop-again : tie.Need-loop-again Inv-loop μ-loop
 loop-again c =
     let i = c .before .before .before .before in
     let a = i .before .before .args in
-    let e : setOk (a .modes) (num32 (now (a .s)) (14 + 4 * i .loop .m)) ≡ true =
-    ap (setOk (a .modes)) (sym (c .before .before .be32 .ensures)) ∙ sym (c .before .is-set-of .ensures) ∙ not-false _ (c .if1 .left)
+    let ws = words (now (a .s)) 14 (a .modes + 1) in
+    let inside : i .loop .m < length ws = omega (arith, length-words (now (a .s)) 14 (a .modes + 1)) in
+    let e : setOk (a .modes) (getD ws (i .loop .m) 0) ≡ true =
+    ap (setOk (a .modes)) (word-there (now (a .s)) 14 (a .modes + 1) (i .loop .m) (omega arith) ∙ sym (c .before .before .be32 .ensures))
+    ∙ sym (c .before .is-set-of .ensures)
+    ∙ not-false _ (c .if1 .left)
     in
-    (omega arith, i .loop .inv .1 ∙ sets-next (now (a .s)) (a .modes) 14 (a .modes + 1) (i .loop .m) (omega arith) e)
+    (omega arith, i .loop .inv .1 ∙ set-fine 3 (a .modes) ws (i .loop .m) inside e)
 
 returns-2 : tie.Need-returns-2 Inv-loop μ-loop
 returns-2 c =
     let i = c .before in
     let a = i .before .before .args in
-    sym (i .loop .inv .1 ∙ sets-none (now (a .s)) (a .modes) (14 + 4 * i .loop .m) (a .modes + 1) (i .loop .m) (3 + 4 * i .loop .m) (omega arith))
+    let ws = words (now (a .s)) 14 (a .modes + 1) in
+    let done : length ws ≤ i .loop .m = omega (arith, length-words (now (a .s)) 14 (a .modes + 1)) in
+    sym (i .loop .inv .1 ∙ sets-end 3 (a .modes) ws (i .loop .m) done)
 
 pub sets-wrong-spec : {M : Type 1} → statement M
 sets-wrong-spec =

@@ -3,9 +3,9 @@
 use native.Mathlib.Omega.{arith}
 use mathlib.Core.Path.{sym, ap, _∙_}
 use Rattle.rules.specs.Verdicts.{accepted}
+use Rattle.theory.proofs.Ranges.{op-within}
 use Rattle.fields.specs.FieldLaws.{repeat-passed}
 use Rattle.fields.specs.RefusalLaws.{passed-as, refused-as}
-use Rattle.ranges.specs.RangeLaws.{wrong-near}
 use Rattle.reading.specs.ReadingLaws.{op-judged, op-bad, op-range, op-fine}
 use borrow.Author.Needs.{needs}
 use Rattle.reading.proofs.next_op.Statement.{statement}
@@ -38,7 +38,7 @@ add-t13 c =
     let w = c .before in
     let e = w .before .before in
     let f = e .before .before in
-    omega (arith, repeat-passed _ _ _ _ _ (sym (passed-as (f .repeated-at .ensures) (e .enum-told .given .1))) .0, wrong-near _ _ (w .wide-wrong .ensures))
+    omega (arith, repeat-passed _ _ _ _ _ (sym (passed-as (f .repeated-at .ensures) (e .enum-told .given .1))) .0, op-within _ _ (w .wide-wrong .ensures))
 
 returns-2 : tie.Need-returns-2
 returns-2 c =

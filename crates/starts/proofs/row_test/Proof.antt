@@ -7,7 +7,7 @@ use Rattle.theory.proofs.Ranges.{row-within}
 use Rattle.fields.specs.FieldLaws.{repeat-passed}
 use Rattle.fields.specs.RefusalLaws.{passed-as, refused-as}
 use Rattle.fields.specs.FieldLaws.{repeat-bad, repeat-ranged}
-use Rattle.rows.specs.Rows.{ticksOf, rowOf}
+use Rattle.rows.specs.Rows.{ticksOf}
 use borrow.Author.Needs.{needs}
 use Rattle.starts.proofs.row_test.Statement.{statement}
 use Rattle.starts.proofs.row_test.Tie as tie
@@ -31,12 +31,10 @@ range-test-requires : tie.Need-range-test-requires
 range-test-requires c κs =
     let b = c .before in
     let f = b .before .before .before in
-    let q = f .before .before .args .q in
     omega (
       arith,
       repeat-passed _ _ _ _ _ (sym (passed-as (f .repeated-at .ensures) (b .before .enum-told .given .1))) .0,
-      c .row-wrong .ensures,
-      row-within (ticksOf q) (rowOf (b .row-at .result)),
+      row-within _ _ (c .row-wrong .ensures),
     )
 
 returns : tie.Need-returns
