@@ -1,5 +1,8 @@
 -- The tests in the order of the definition.
 -- Assumes nothing.
+use mathlib.Core.Path.{_≡_}
+use mathlib.Core.Bool.{false}
+use lib.Dec.{leb}
 use borrow.Author.Tests.{le-leb, lt-leb}
 use Rattle.rules.specs.Judge.{countsWrong}
 use Rattle.ranges.proofs.counts_wrong.Statement.{statement}
@@ -11,7 +14,10 @@ returns c = simp (lt-leb _ _ (c .if1 .taken))
 
 returns-2 : tie.Need-returns-2
 unfolding countsWrong
-returns-2 c = let b = c .before in simp (le-leb _ _ (b .if1 .left), lt-leb _ _ (c .if2 .taken))
+returns-2 c =
+    let b = c .before in
+    let high : leb (b .before .args .boards) 16 ≡ false = lt-leb (b .before .args .boards) 16 (c .if2 .taken) in
+    simp (le-leb _ _ (b .if1 .left), high)
 
 returns-3 : tie.Need-returns-3
 unfolding countsWrong
