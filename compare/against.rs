@@ -182,6 +182,7 @@ fn compare_folds(bytes: &[u8], most: usize, seed: &mut Seed, findings: &mut Find
 fn draw_bytes(seed: &mut Seed, findings: &mut Findings) {
     let bytes = generate::table_bytes(seed);
     findings.note_blamed("judge", &blamed::in_table(&bytes));
+    findings.deciders.note_bytes(&bytes);
     compare_judge(&bytes, findings);
     // whole tables have draws of their own; here it is the damaged ones
     if judge(&bytes).is_err() {
@@ -234,13 +235,28 @@ fn k1() -> Vec<u8> {
     bytes_in(K1).expect("the example is hexadecimal text")
 }
 
-/// K1 and K1's reply, with every small damage.
+/// Two modes, three boards. The first operation decides the mode and lasts two ticks, the
+/// second runs in one mode and starts then, the third runs in both and does not wait.
+const DECIDED: &str = "0100020004 020003030002 03000c000000010000000300000001 \
+    040012000000020001000000000000000000000003 040012000200010002000000000000000000000001 \
+    040012000100020004000000000000000000000003 05000100";
+
+fn decided() -> Vec<u8> {
+    let bytes = bytes_in(DECIDED).expect("hexadecimal text");
+    judge(&bytes).expect("it is accepted");
+    bytes
+}
+
+/// K1, K1 and another table with a decider, and K1's reply, with every small damage.
 fn fixed_bytes(seed: &mut Seed, findings: &mut Findings) {
     let k1 = k1();
-    for bytes in all_damages(&k1) {
-        compare_judge(&bytes, findings);
-        compare_at_period(&bytes, generate::period_question(seed, 5), findings);
-        compare_folds(&bytes, 1, seed, findings);
+    let k1_decided = [&k1[..], &[0x05, 0, 1, 0]].concat();
+    for table in [&k1, &k1_decided, &decided()] {
+        for bytes in all_damages(table) {
+            compare_judge(&bytes, findings);
+            compare_at_period(&bytes, generate::period_question(seed, 5), findings);
+            compare_folds(&bytes, 1, seed, findings);
+        }
     }
     let reply = answers::fold(&k1).expect("K1 is accepted");
     for reply in all_damages(&reply_bytes(&reply)) {
@@ -268,10 +284,17 @@ fn pairs_of_values() -> impl Iterator<Item = (u64, u64)> {
     VALUES.iter().flat_map(|one| VALUES.map(|two| (*one, two)))
 }
 
+/// K1 as numbers; its only operation decides the mode.
+fn k1_numbers() -> Numbers {
+    let mut table = judge(&k1()).expect("K1 is accepted");
+    table.decider = Some(0);
+    numbers_of(&table)
+}
+
 /// K1 with any two of its numbers at any of these values, as numbers and as bytes.
 fn fixed_pairs(findings: &mut Findings) {
-    let k1 = numbers_of(&judge(&k1()).expect("K1 is accepted"));
-    let places = k1.before_ops() + k1.ops.len();
+    let k1 = k1_numbers();
+    let places = k1.decider_place() + 1;
     let pairs = (0..places).flat_map(|second| (0..second).map(move |first| (first, second)));
     for (first, second) in pairs {
         for values in pairs_of_values() {
@@ -279,6 +302,21 @@ fn fixed_pairs(findings: &mut Findings) {
             (*numbers.number(first), *numbers.number(second)) = values;
             compare_judge_numbers(&numbers, findings);
             compare_judge(&bytes_of_numbers(&numbers), findings);
+        }
+    }
+}
+
+/// K1 with its mark and its decider at any of these values, and with numbers of its
+/// operation missing or more behind them.
+fn fixed_marks(seed: &mut Seed, findings: &mut Findings) {
+    for (mark, decider) in pairs_of_values() {
+        for length in 0..=13 {
+            let mut numbers = k1_numbers();
+            numbers.ops.resize(length, 1);
+            (numbers.mark, numbers.decider) = (mark, decider);
+            compare_judge_numbers(&numbers, findings);
+            let before = memory_for(seed, bytes_of_numbers(&numbers).len());
+            compare_write(&numbers, &before, findings);
         }
     }
 }
@@ -334,14 +372,16 @@ fn hex_words(words: &[u64]) -> String {
 
 fn hex_numbers(n: &Numbers) -> String {
     format!(
-        "p {:x} boards {:x} cells {:x} modes {:x} first {:x} follow [{}] ops [{}]",
+        "p {:x} boards {:x} cells {:x} modes {:x} first {:x} follow [{}] ops [{}] mark {:x} decider {:x}",
         n.p,
         n.boards,
         n.cells,
         n.modes,
         n.first,
         hex_words(&n.follow),
-        hex_words(&n.ops)
+        hex_words(&n.ops),
+        n.mark,
+        n.decider
     )
 }
 
@@ -372,16 +412,12 @@ fn compare_write(numbers: &Numbers, before: &[u8], findings: &mut Findings) {
     findings.note("write", input, &library, &planner);
 }
 
-/// The bytes that these numbers take in the layout.
-fn layout_length(numbers: &Numbers) -> usize {
-    18 + 4 * numbers.follow.len() + 21 * (numbers.ops.len() / 6)
-}
-
 fn draw_numbers(seed: &mut Seed, findings: &mut Findings) {
     let numbers = generate::numbers(seed);
     findings.note_blamed("judge_numbers", &blamed::in_numbers(&numbers));
+    findings.deciders.note_numbers(&numbers);
     compare_judge_numbers(&numbers, findings);
-    for length in rooms(seed, layout_length(&numbers)) {
+    for length in rooms(seed, bytes_of_numbers(&numbers).len()) {
         let before = memory_for(seed, length);
         compare_write(&numbers, &before, findings);
     }
@@ -395,6 +431,7 @@ pub fn against(count: u64, mut seed: Seed) -> bool {
     let mut findings = Findings::default();
     fixed_bytes(&mut seed, &mut findings);
     fixed_pairs(&mut findings);
+    fixed_marks(&mut seed, &mut findings);
     fixed_replies(&mut seed, &mut findings);
     fixed_margins(&mut seed, &mut findings);
     for turn in 0..count {
@@ -408,7 +445,7 @@ pub fn against(count: u64, mut seed: Seed) -> bool {
     for turn in 0..count / 100 {
         let table = match turn % 2 {
             0 => generate::large(&mut seed),
-            _ => generate::largest(&mut seed),
+            _ => generate::any_largest(&mut seed),
         };
         draw_table(&table, 1, &mut seed, &mut findings);
     }

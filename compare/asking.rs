@@ -5,7 +5,7 @@ use crate::answers::{fold, reply_bytes, Reply, Row};
 use crate::examples::K1;
 use crate::generate::{self, Seed};
 use crate::hex::{bytes_in, hex};
-use crate::judge::{judge, Table};
+use crate::judge::{bytes_of, judge, Table};
 use crate::walks;
 use crate::words::{printed, question_in, Word, LIST};
 use std::collections::BTreeMap;
@@ -120,7 +120,12 @@ fn about_table(bytes: &[u8], turn: usize) -> Vec<Case> {
 const RACE: &str = "0100020004 020003020101 0300080000000100000001 \
     040012000000020001000000000000000100000001 040012000100020002000000010000000000000001";
 
-/// K1 cut, K1 with a wrong length, a race, a reply, and K1 with more bytes behind it than are
+/// The first operation decides the mode, and the second starts before it has ended.
+const EARLY: &str = "0100020004 020003020002 03000c000000030000000300000003 \
+    040012000000020001000000000000000000000003 040012000100020002000000000000000000000002 05000100";
+
+/// K1 cut, K1 with a wrong length, a race, an operation that is too early, a reply, K1 with a
+/// decider, and with one that it does not have; and K1 with more bytes behind it than are
 /// read: what the tables of `examples/` do not have.
 fn damaged_tables() -> Vec<Vec<u8>> {
     let k1 = k1();
@@ -130,7 +135,10 @@ fn damaged_tables() -> Vec<Vec<u8>> {
         k1[..k1.len() - 1].to_vec(),
         long_field,
         bytes_in(RACE).expect("hexadecimal text"),
+        bytes_in(EARLY).expect("hexadecimal text"),
         reply_of(&k1),
+        [&k1[..], &[0x05, 0, 1, 0]].concat(),
+        [&k1[..], &[0x05, 0, 1, 1]].concat(),
         [&k1[..], &[0; 5000]].concat(),
     ]
 }
@@ -138,6 +146,7 @@ fn damaged_tables() -> Vec<Vec<u8>> {
 fn about_damaged_tables() -> Vec<Case> {
     let ask_all = |bytes: Vec<u8>| {
         [
+            case(&[], &bytes),
             case(&["boards", "3"], &bytes),
             case(&["values", "3"], &bytes),
             case(&["values", "0"], &bytes),
@@ -462,6 +471,8 @@ fn kinds() -> Vec<String> {
     for (name, most) in [("boards", 7), ("values", 7), ("margin", 7), ("unfold", 5)] {
         all.extend((1..=most).map(|number| format!("{} refused {}", name, number)));
     }
+    let early = ["fold", "boards", "values", "margin"];
+    all.extend(early.map(|name| format!("{} refused 10", name)));
     all
 }
 
@@ -512,13 +523,16 @@ fn print_difference(case: &Case, output: &Output, planned: &(String, String)) {
     println!("  planner's error {:?}", shown(planned.1.as_bytes()));
 }
 
-/// All cases: about each table, about damaged ones and replies, words by themselves, drawn ones.
+/// All cases: about each table and a longest one with a decider, about damaged ones and
+/// replies, words by themselves, drawn ones.
 fn all_cases(tables: &[Vec<u8>]) -> Vec<Case> {
     let mut seed = Seed::new(1);
-    let tables = tables.iter().enumerate();
+    let longest = bytes_of(&generate::longest_decided(&mut seed));
+    let tables = tables.iter().chain([&longest]).enumerate();
     let mut cases: Vec<Case> = tables
         .flat_map(|(turn, bytes)| about_table(bytes, turn))
         .collect();
+    cases.push(case(&[], &longest));
     cases.extend(about_damaged_tables());
     cases.extend(about_replies());
     cases.extend(about_words());

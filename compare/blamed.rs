@@ -28,7 +28,7 @@ const fn number(name: &'static str, tag: u8, place: u64, bytes: u32, right: u64)
 
 /// The numbers of a table and those of a reply, in layout order. The followers of all
 /// modes have one line.
-pub const LAYOUT: [Number; 15] = [
+pub const LAYOUT: [Number; 16] = [
     number("length", 0x01, 3, 2, 1000),
     number("boards", 0x02, 3, 1, 16),
     number("cells", 0x02, 4, 1, 32),
@@ -41,6 +41,7 @@ pub const LAYOUT: [Number; 15] = [
     number("reads", 0x04, 9, 4, 0),
     number("writes", 0x04, 13, 4, 0),
     number("modes of an op", 0x04, 17, 4, 1),
+    number("decider", 0x05, 3, 1, 0),
     number("period", 0x11, 3, 2, 1000),
     number("folded start", 0x12, 3, 2, 0),
     number("start index", 0x12, 5, 2, 0),
@@ -50,6 +51,7 @@ pub const LAYOUT: [Number; 15] = [
 const FOLLOWERS: usize = 5;
 const START: usize = 6;
 const DURATION: usize = 7;
+const DECIDER: usize = 12;
 
 /// A number that RANGE blames: the offset of its field, its own, and its place in
 /// LAYOUT.
@@ -94,6 +96,14 @@ impl Input for Bytes {
     }
 }
 
+impl Numbers {
+    /// The operation whose field is at this offset: as many as there are for what is
+    /// behind the last one.
+    fn op_at(&self, at: u64) -> usize {
+        (at - 18 - 4 * self.modes) as usize / 21
+    }
+}
+
 impl Input for Numbers {
     fn refusal(&self) -> Option<Refusal> {
         judge_numbers(self).err()
@@ -104,7 +114,8 @@ impl Input for Numbers {
             0 => 0x01,
             5 => 0x02,
             11 => 0x03,
-            _ => 0x04,
+            _ if self.op_at(at) * NUMBERS_PER_OP < self.ops.len() => 0x04,
+            _ => 0x05,
         }
     }
 
@@ -114,9 +125,10 @@ impl Input for Numbers {
             number
         } else if number == FOLLOWERS {
             FOLLOWERS + (b - 18) as usize / 4
+        } else if number == DECIDER {
+            self.decider_place()
         } else {
-            let op = (a - 18 - 4 * self.modes) as usize / 21;
-            self.before_ops() + NUMBERS_PER_OP * op + number - START
+            self.before_ops() + NUMBERS_PER_OP * self.op_at(a) + number - START
         };
         *self.number(place) = value;
     }

@@ -1,6 +1,7 @@
 //! What is seen of a call, and what was found in all of them.
 
 use crate::blamed::{Blamed, LAYOUT};
+use crate::deciders::Deciders;
 use crate::generate::Seed;
 use crate::hex::hex;
 use crate::judge::Refusal;
@@ -10,39 +11,39 @@ use crate::library::Said;
 /// for success, and each refusal that the function can give. What `fold` writes of
 /// a refused table is counted by itself, and so are the yes and the no of a question.
 const FUNCTIONS: [(&str, &[usize]); 15] = [
-    ("judge", &[0, 1, 2, 3, 4, 5, 6, 7]),
-    ("judge_numbers", &[0, 1, 2, 3, 4, 5, 6, 7]),
-    ("write", &[0, 1, 2, 3, 4, 5, 6, 7, 8]),
-    ("period", &[0, 1, 2, 3, 4, 5, 6, 7]),
-    ("boards_fit", &[1, 2, 3, 4, 5, 6, 7, 9]),
+    ("judge", &[0, 1, 2, 3, 4, 5, 6, 7, 10]),
+    ("judge_numbers", &[0, 1, 2, 3, 4, 5, 6, 7, 10]),
+    ("write", &[0, 1, 2, 3, 4, 5, 6, 7, 8, 10]),
+    ("period", &[0, 1, 2, 3, 4, 5, 6, 7, 10]),
+    ("boards_fit", &[1, 2, 3, 4, 5, 6, 7, 9, 10]),
     ("boards_fit, yes", &[0]),
     ("boards_fit, no", &[0]),
-    ("values_arrive", &[1, 2, 3, 4, 5, 6, 7, 9]),
+    ("values_arrive", &[1, 2, 3, 4, 5, 6, 7, 9, 10]),
     ("values_arrive, yes", &[0]),
     ("values_arrive, no", &[0]),
-    ("plan", &[0, 1, 2, 3, 4, 5, 6, 7, 8]),
+    ("plan", &[0, 1, 2, 3, 4, 5, 6, 7, 8, 10]),
     ("unfold", &[0, 1, 2, 3, 4, 5, 8]),
-    ("margin", &[0, 1, 2, 3, 4, 5, 6, 7, 9]),
+    ("margin", &[0, 1, 2, 3, 4, 5, 6, 7, 9, 10]),
     ("fold", &[0, 8]),
     ("fold, refused", &[0, 8]),
 ];
 
 /// Success and the refusals, by their numbers.
-const NAMES: [&str; 10] = [
-    "good", "SHORT", "ORDER", "SIZE", "RANGE", "MANY", "CLASH", "RACE", "ROOM", "ASK",
+pub const NAMES: [&str; 11] = [
+    "good", "SHORT", "ORDER", "SIZE", "RANGE", "MANY", "CLASH", "RACE", "ROOM", "ASK", "EARLY",
 ];
 
 /// The functions whose RANGE is looked into, each with the numbers that it has to be
 /// seen to blame, by their places in LAYOUT: those of a table or of a reply. A start
 /// is blamed only where it is handed over as a number.
 const BLAMING: [(&str, &[usize]); 3] = [
-    ("judge", &[0, 1, 2, 3, 4, 5, 7, 8, 9, 10, 11]),
-    ("judge_numbers", &[0, 1, 2, 3, 4, 5, 6, 7, 8, 9, 10, 11]),
-    ("unfold", &[12, 13, 14]),
+    ("judge", &[0, 1, 2, 3, 4, 5, 7, 8, 9, 10, 11, 12]),
+    ("judge_numbers", &[0, 1, 2, 3, 4, 5, 6, 7, 8, 9, 10, 11, 12]),
+    ("unfold", &[13, 14, 15]),
 ];
 
 /// Those of LAYOUT that have others of their field behind them.
-const LEADING: [usize; 10] = [1, 2, 4, 5, 6, 7, 8, 9, 10, 13];
+const LEADING: [usize; 10] = [1, 2, 4, 5, 6, 7, 8, 9, 10, 14];
 
 /// How many differences are printed; the others are only counted.
 const MOST_PRINTED: u64 = 5;
@@ -179,12 +180,13 @@ impl Blaming {
 
 // ---- what was found -----------------------------------------------------
 
-/// How often each function gave each number, the numbers that RANGE blames, and how
-/// many answers differ.
+/// How often each function gave each number, the numbers that RANGE blames, what was met of
+/// deciders, and how many answers differ.
 #[derive(Default)]
 pub struct Findings {
     met: [[u64; NAMES.len()]; FUNCTIONS.len()],
     blaming: Blaming,
+    pub deciders: Deciders,
     pub differences: u64,
 }
 
@@ -222,9 +224,11 @@ impl Findings {
             println!();
         }
         self.blaming.print();
+        self.deciders.print();
     }
 
-    /// The numbers that a function has to be seen to give or to blame, and was not.
+    /// The numbers that a function has to be seen to give or to blame, and was not, and the
+    /// kinds of inputs with a decider that were not met.
     pub fn missed(&self) -> Vec<String> {
         let mut all = Vec::new();
         for (place, (name, numbers)) in FUNCTIONS.iter().enumerate() {
@@ -235,6 +239,7 @@ impl Findings {
             }
         }
         all.extend(self.blaming.missed());
+        all.extend(self.deciders.missed());
         all
     }
 }

@@ -2,8 +2,8 @@
 //! as numbers, questions. The same seed gives the same inputs.
 
 use crate::answers::{plan, reply_bytes, Reply, Row};
-use crate::judge::{bytes_of, bytes_of_numbers, judge_pairs, number_in, numbers_of};
-use crate::judge::{Numbers, Op, Table, NUMBERS_PER_OP};
+use crate::judge::{bytes_of, bytes_of_numbers, judge_table, number_in, numbers_of};
+use crate::judge::{Numbers, Op, Refusal, Table, EARLY, NUMBERS_PER_OP};
 use crate::runs::enough_cycles;
 use std::ops::Range;
 
@@ -181,7 +181,7 @@ fn some_op(seed: &mut Seed, shape: &Shape) -> Op {
     }
 }
 
-/// A table in range; it may have clashes and races.
+/// A table in range, without a decider; it may have clashes and races.
 fn some_table(seed: &mut Seed, shape: &Shape) -> Table {
     Table {
         len: shape.p,
@@ -191,6 +191,7 @@ fn some_table(seed: &mut Seed, shape: &Shape) -> Table {
         first: filled_set(seed, shape.modes, 2),
         follow: followers(seed, shape.modes),
         ops: (0..shape.ops).map(|_| some_op(seed, shape)).collect(),
+        decider: None,
     }
 }
 
@@ -208,19 +209,48 @@ fn mend_op(seed: &mut Seed, shape: &Shape, op: &mut Op) {
     op.dur = op.dur.min(shape.p - op.start);
 }
 
-/// Mend until no pair clashes or races; when that takes too long, leave
-/// operations out.
+/// Let the decider run in every mode. Of an operation that starts before its end: let that
+/// run in every mode, or start later, or let the decider be earlier and shorter.
+fn mend_early(seed: &mut Seed, table: &mut Table, bad: Refusal) {
+    let (len, every) = (table.len, full_set(table.modes));
+    let decider = &mut table.ops[bad.a as usize];
+    let end = decider.end();
+    if bad.a == bad.b {
+        decider.modes = every;
+        return;
+    }
+    match seed.below(4) {
+        0 => table.ops[bad.b as usize].modes = every,
+        1 | 2 if end < len => {
+            let op = &mut table.ops[bad.b as usize];
+            op.dur = op.dur.min(len - end);
+            op.start = seed.often_edge(end, len - op.dur);
+        }
+        _ => (decider.start, decider.dur) = (decider.start / 2, (decider.dur + 1) / 2),
+    }
+}
+
+/// Mend until nothing is refused; when that takes too long, leave the decider out and
+/// then operations.
 fn mend(seed: &mut Seed, shape: &Shape, table: &mut Table) {
     let mut tries = 0;
-    while let Err(bad) = judge_pairs(table) {
+    while let Err(bad) = judge_table(table) {
+        tries += 1;
+        if tries > 2000 && table.decider.is_some() {
+            table.decider = None;
+            continue;
+        }
+        if bad.number == EARLY {
+            mend_early(seed, table, bad);
+            continue;
+        }
         let which = if seed.once_in(2) { bad.a } else { bad.b };
         let one = which as usize;
-        if tries < 2000 {
+        if tries <= 2000 {
             mend_op(seed, shape, &mut table.ops[one]);
         } else {
             table.ops.remove(one);
         }
-        tries += 1;
     }
 }
 
@@ -282,13 +312,148 @@ fn carrying_table(seed: &mut Seed, shape: &Shape) -> Table {
     table
 }
 
-/// Accepted, of one of the two kinds.
+/// Accepted, without a decider, of one of the two kinds.
 fn either_table(seed: &mut Seed, shape: &Shape) -> Table {
     if seed.once_in(3) {
         carrying_table(seed, shape)
     } else {
         good_table(seed, shape)
     }
+}
+
+// ---- tables with a decider ----------------------------------------------
+
+/// The shape that a table has.
+fn shape_of(table: &Table) -> Shape {
+    let longest = table.ops.iter().map(|op| op.dur).max();
+    Shape {
+        p: table.len,
+        boards: table.boards,
+        cells: table.cells,
+        modes: table.modes,
+        ops: table.ops.len() as u64,
+        longest: longest.unwrap_or(1),
+    }
+}
+
+/// The operations that an accepted table may name as its decider.
+fn possible_deciders(table: &Table) -> Vec<u64> {
+    let accepted = |one: &u64| {
+        let decider = Some(*one);
+        let table = table.clone();
+        judge_table(&Table { decider, ..table }).is_ok()
+    };
+    (0..table.ops.len() as u64).filter(accepted).collect()
+}
+
+/// An accepted table with a decider, accepted again: one that it may name as it is, or any
+/// one, for which it is mended.
+pub fn decided(seed: &mut Seed, mut table: Table) -> Table {
+    let possible = possible_deciders(&table);
+    let decider = if possible.is_empty() || seed.once_in(2) {
+        seed.below(table.ops.len() as u64)
+    } else {
+        seed.one_of(&possible)
+    };
+    table.decider = Some(decider);
+    let shape = shape_of(&table);
+    mend(seed, &shape, &mut table);
+    table
+}
+
+/// An accepted table as it is, or with a decider.
+fn perhaps_decided(seed: &mut Seed, table: Table) -> Table {
+    if seed.once_in(2) {
+        return table;
+    }
+    decided(seed, table)
+}
+
+/// The table names any operation as its decider, or none.
+fn name_any(seed: &mut Seed, table: &mut Table) {
+    let any = seed.below(table.ops.len() as u64);
+    table.decider = seed.once_in(2).then(|| any);
+}
+
+/// Take a mode out of what runs begin with and of what follows other modes; there is
+/// another mode.
+fn leave_unreached(table: &mut Table, mode: u64) {
+    let other = if mode == 0 { 1 } else { mode - 1 };
+    let without = |set: u64| match set & !(1 << mode) {
+        0 => 1 << other,
+        rest => rest,
+    };
+    table.first = without(table.first);
+    for (from, set) in (0..).zip(&mut table.follow) {
+        if from != mode {
+            *set = without(*set);
+        }
+    }
+}
+
+/// The modes of an operation beside a decider: all, all but one, one, or some.
+fn beside_modes(seed: &mut Seed, modes: u64) -> u64 {
+    let every = full_set(modes);
+    match seed.below(5) {
+        0 | 1 => every,
+        2 => every & !(1 << seed.below(modes)),
+        3 => 1 << seed.below(modes),
+        _ => mode_set(seed, modes),
+    }
+}
+
+/// An operation on a board of its own that writes nothing. Mostly it starts a tick before
+/// the decider's end, at it or a tick after it.
+fn beside_op(seed: &mut Seed, table: &Table, board: usize, end: u64) -> Op {
+    let start = match seed.below(4) {
+        0 => seed.below(table.len),
+        _ => end - 1 + seed.below(3),
+    };
+    Op {
+        start,
+        dur: seed.between(1, table.len - start),
+        boards: 1 << board,
+        reads: some_set(seed, table.cells, 1),
+        writes: 0,
+        modes: beside_modes(seed, table.modes),
+    }
+}
+
+/// A decider among operations that start around its end. It runs in every mode, or in all
+/// but one, which is often one that no run reaches.
+fn deciding_table(seed: &mut Seed) -> Table {
+    let ops = seed.between(1, 6);
+    let shape = Shape {
+        p: seed.between(4, 12),
+        boards: ops,
+        cells: 1,
+        modes: seed.one_of(&[2, 2, 3, 4, 32]),
+        ops,
+        longest: 2,
+    };
+    let mut table = some_table(seed, &shape);
+    let start = seed.below(shape.p - 2);
+    let dur = seed.between(1, shape.p - 2 - start);
+    table.ops = (0..ops as usize)
+        .map(|board| beside_op(seed, &table, board, start + dur))
+        .collect();
+    let (decider, missed) = (seed.below(ops), seed.below(shape.modes));
+    let mut modes = full_set(shape.modes);
+    if seed.once_in(5) {
+        modes &= !(1 << missed);
+    }
+    if seed.once_in(2) {
+        leave_unreached(&mut table, missed);
+    }
+    let op = &mut table.ops[decider as usize];
+    (op.start, op.dur, op.modes) = (start, dur, modes);
+    table.decider = Some(decider);
+    table
+}
+
+/// Its bytes.
+pub fn deciding(seed: &mut Seed) -> Vec<u8> {
+    bytes_of(&deciding_table(seed))
 }
 
 // ---- tables whose runs can be laid out ----------------------------------
@@ -388,7 +553,7 @@ pub fn tiny(seed: &mut Seed) -> Table {
     while !has_few_runs(&table) {
         table = tiny_table(seed);
     }
-    table
+    perhaps_decided(seed, table)
 }
 
 // ---- accepted tables of all sizes ---------------------------------------
@@ -396,35 +561,56 @@ pub fn tiny(seed: &mut Seed) -> Table {
 /// Accepted and small.
 pub fn small(seed: &mut Seed) -> Table {
     let shape = small_shape(seed);
-    either_table(seed, &shape)
+    let table = either_table(seed, &shape);
+    perhaps_decided(seed, table)
 }
 
 /// Accepted, up to the highest counts.
 pub fn large(seed: &mut Seed) -> Table {
     let shape = large_shape(seed);
-    either_table(seed, &shape)
+    let table = either_table(seed, &shape);
+    perhaps_decided(seed, table)
 }
 
-/// Accepted, every count at its highest.
+/// Accepted, every count at its highest, without a decider.
 pub fn largest(seed: &mut Seed) -> Table {
     let shape = largest_shape(seed);
     either_table(seed, &shape)
+}
+
+/// The same, or with a decider.
+pub fn any_largest(seed: &mut Seed) -> Table {
+    let table = largest(seed);
+    perhaps_decided(seed, table)
+}
+
+/// Accepted, with as many operations and modes as there may be, and a decider.
+pub fn longest_decided(seed: &mut Seed) -> Table {
+    loop {
+        let table = largest(seed);
+        let table = decided(seed, table);
+        if table.ops.len() == 32 && table.decider.is_some() {
+            return table;
+        }
+    }
 }
 
 /// Accepted, mostly small.
 fn good(seed: &mut Seed) -> Table {
     match seed.below(12) {
         0 | 1 => large(seed),
-        2 => largest(seed),
+        2 => any_largest(seed),
         _ => small(seed),
     }
 }
 
-/// Whole tables: most are accepted, some clash or race.
+/// Whole tables: most are accepted, some clash, race or have something that is too early.
 pub fn whole(seed: &mut Seed) -> Vec<u8> {
     if seed.once_in(5) {
         let shape = small_shape(seed);
-        return bytes_of(&some_table(seed, &shape));
+        let mut table = some_table(seed, &shape);
+        name_any(seed, &mut table);
+        return bytes_of(&table);
     }
     bytes_of(&good(seed))
 }
@@ -439,7 +625,9 @@ fn clashing_table(seed: &mut Seed) -> Table {
     shape.ops = seed.between(2, 32);
     shape.boards = seed.between(1, 3);
     shape.longest = shape.p;
-    some_table(seed, &shape)
+    let mut table = some_table(seed, &shape);
+    name_any(seed, &mut table);
+    table
 }
 
 /// A table with boards mostly apart and many pairs that race.
@@ -461,6 +649,7 @@ fn racing_table(seed: &mut Seed) -> Table {
         let last = table.ops.len() - 1;
         table.ops[last].boards |= 1 << seed.below(last as u64);
     }
+    name_any(seed, &mut table);
     table
 }
 
@@ -491,6 +680,7 @@ pub fn touching(seed: &mut Seed) -> Vec<u8> {
     if seed.once_in(2) {
         table.ops.swap(0, 1);
     }
+    name_any(seed, &mut table);
     bytes_of(&table)
 }
 
@@ -569,10 +759,11 @@ pub fn ring_drawn(seed: &mut Seed) -> Table {
         first: 1 << seed.below(RING),
         follow: ring_followers(),
         ops: Vec::new(),
+        decider: None,
     };
     loop {
         table.ops = (0..32).map(|_| ring_tick(seed)).collect();
-        if judge_pairs(&table).is_ok() {
+        if judge_table(&table).is_ok() {
             return table;
         }
     }
@@ -631,6 +822,7 @@ pub fn ring_placed(seed: &mut Seed) -> Table {
         first: 1 << seed.below(RING),
         follow: ring_followers(),
         ops,
+        decider: None,
     }
 }
 
@@ -691,9 +883,20 @@ fn edge_op(seed: &mut Seed, table: &mut Table) {
     }
 }
 
+/// The decider at an edge of its range: the last operation, one beyond, the last that
+/// there may be, the highest that its byte can have.
+fn edge_decider(seed: &mut Seed, table: &mut Table) {
+    let ops = table.ops.len() as u64;
+    table.decider = Some(seed.one_of(&[0, ops - 1, ops, ops + 1, 31, 32, 255]));
+}
+
 /// A good table with one or two numbers put at an edge.
 fn edge_table(seed: &mut Seed) -> Table {
     let mut table = good(seed);
+    if seed.once_in(4) {
+        edge_decider(seed, &mut table);
+        return table;
+    }
     if seed.once_in(2) {
         edge_op(seed, &mut table);
     }
@@ -755,8 +958,12 @@ fn spoil_op(seed: &mut Seed, table: &Table, six: &mut [u64], place: usize) {
 
 /// A number put out of its range in the table that is given.
 fn spoil(seed: &mut Seed, table: &Table, numbers: &mut Numbers, place: usize) {
+    let ops = table.ops.len() as u64;
     match place.checked_sub(numbers.before_ops()) {
         None => spoil_head(seed, table.modes, place, numbers.number(place)),
+        Some(_) if place == numbers.decider_place() => {
+            numbers.decider = seed.one_of(&[ops, ops + 1, 32, 255]);
+        }
         Some(place) => {
             let first = place - place % NUMBERS_PER_OP;
             let six = &mut numbers.ops[first..first + NUMBERS_PER_OP];
@@ -766,14 +973,15 @@ fn spoil(seed: &mut Seed, table: &Table, numbers: &mut Numbers, place: usize) {
 }
 
 /// The numbers of one field, by their places in layout order: the length, the counts,
-/// the sets of modes or the last few of them, or an operation or its sets.
+/// the sets of modes or the last few of them, an operation or its sets, or the decider.
 fn numbers_of_field(seed: &mut Seed, numbers: &Numbers) -> Range<usize> {
-    let before_ops = numbers.before_ops();
-    match seed.below(8) {
+    let (before_ops, decider) = (numbers.before_ops(), numbers.decider_place());
+    match seed.below(9) {
         0 => 0..1,
         1 | 2 => 1..4,
         3 => 4..before_ops,
         4 => 4.max(before_ops - 3)..before_ops,
+        5 if numbers.marked().is_some() => decider..decider + 1,
         _ => {
             let ops = numbers.ops.len() / NUMBERS_PER_OP;
             let first = before_ops + NUMBERS_PER_OP * seed.below(ops as u64) as usize;
@@ -851,11 +1059,26 @@ fn table_of(seed: &mut Seed, ops: u64, apart: bool) -> Table {
     table
 }
 
+/// Half of them with a decider: the first operation, which then runs in every mode, or one
+/// around the last.
+fn perhaps_count_decider(seed: &mut Seed, table: &mut Table) {
+    let ops = table.ops.len() as u64;
+    if seed.once_in(2) {
+        return;
+    }
+    table.decider = Some(seed.one_of(&[0, 0, 0, 0, ops.saturating_sub(1), ops]));
+    if let Some(op) = table.ops.first_mut() {
+        op.modes = full_set(table.modes);
+    }
+}
+
 /// 31, 32, 33 or 34 operations; also none.
 pub fn counted(seed: &mut Seed) -> Vec<u8> {
     let ops = seed.one_of(&[0, 31, 32, 33, 33, 34]);
     let apart = !seed.once_in(3);
-    let mut bytes = bytes_of(&table_of(seed, ops, apart));
+    let mut table = table_of(seed, ops, apart);
+    perhaps_count_decider(seed, &mut table);
+    let mut bytes = bytes_of(&table);
     if seed.once_in(3) {
         let cut = seed.below(22);
         bytes.truncate(bytes.len() - (cut as usize).min(bytes.len()));
@@ -1003,6 +1226,62 @@ pub fn noise(seed: &mut Seed) -> Vec<u8> {
     out
 }
 
+/// An accepted table with a decider, sometimes with as many operations as there may be.
+fn good_decided(seed: &mut Seed) -> Table {
+    if seed.once_in(4) {
+        let mut table = table_of(seed, 32, true);
+        table.ops[0].modes = full_set(table.modes);
+        table.decider = Some(0);
+        return table;
+    }
+    let table = good(seed);
+    decided(seed, table)
+}
+
+/// What may stand behind a field 05, where nothing is due: it again, the operation before
+/// it, an operation's header, or up to three bytes.
+fn behind_decider(seed: &mut Seed, bytes: &[u8]) -> Vec<u8> {
+    let end = bytes.len();
+    match seed.below(5) {
+        0 => bytes[end - 4..].to_vec(),
+        1 => bytes[end - 25..end - 4].to_vec(),
+        2 => vec![0x04, 0x00, 0x12],
+        _ => {
+            let tag = seed.one_of(&[0, 4, 4, 5, 5, 0xff]) as u8;
+            let length = seed.below(3) as usize;
+            [&[tag][..], &[0, 1][..length]].concat()
+        }
+    }
+}
+
+/// A field 05 of another length, often with as many bytes.
+fn long_decider(seed: &mut Seed) -> Vec<u8> {
+    let length = seed.one_of(&[0, 2, 3, 18, 256, 257, 65535]);
+    let bytes = if seed.once_in(3) { 1 } else { length % 32 };
+    let mut field = vec![0x05, (length >> 8) as u8, length as u8];
+    field.resize(3 + bytes as usize, 0);
+    field
+}
+
+/// A table whose field 05 has something behind it, is of another length, is cut, or stands
+/// before another field, where it is or is not also the last.
+pub fn around_decider(seed: &mut Seed) -> Vec<u8> {
+    let mut bytes = bytes_of(&good_decided(seed));
+    let last = bytes.len() - 4;
+    match seed.below(6) {
+        0..=2 => bytes.extend(behind_decider(seed, &bytes)),
+        3 => drop(bytes.splice(last.., long_decider(seed))),
+        4 => bytes.truncate(last + seed.below(4) as usize),
+        _ => {
+            let field = bytes[last..].to_vec();
+            let (at, _) = some_field(seed, &bytes[..last]);
+            bytes.truncate(last + 4 * seed.below(2) as usize);
+            drop(bytes.splice(at..at, field));
+        }
+    }
+    bytes
+}
+
 /// One kind of damage.
 fn damage(seed: &mut Seed, bytes: &[u8]) -> Vec<u8> {
     match seed.below(6) {
@@ -1017,7 +1296,7 @@ fn damage(seed: &mut Seed, bytes: &[u8]) -> Vec<u8> {
 
 /// A table as bytes, of any kind.
 pub fn table_bytes(seed: &mut Seed) -> Vec<u8> {
-    match seed.below(28) {
+    match seed.below(32) {
         0..=7 => whole(seed),
         8 | 9 => clashing(seed),
         10 | 11 => racing(seed),
@@ -1026,7 +1305,9 @@ pub fn table_bytes(seed: &mut Seed) -> Vec<u8> {
         16 => counted(seed),
         17 => noise(seed),
         18..=21 => spoiled_bytes(seed),
-        22 => {
+        22 | 23 => deciding(seed),
+        24 | 25 => around_decider(seed),
+        26 => {
             let bytes = counted(seed);
             damage_or_keep(seed, bytes)
         }
@@ -1163,11 +1444,13 @@ pub fn reply(seed: &mut Seed) -> Vec<u8> {
 
 // ---- tables as numbers --------------------------------------------------
 
-/// Whole numbers: of a table that is accepted, or clashes, or races.
+/// Whole numbers: of a table that is accepted, or clashes, or races, or has something that
+/// is too early.
 pub fn whole_numbers(seed: &mut Seed) -> Numbers {
-    let table = match seed.below(12) {
+    let table = match seed.below(14) {
         0 => clashing_table(seed),
         1 | 2 => racing_table(seed),
+        3 | 4 => deciding_table(seed),
         _ => good(seed),
     };
     numbers_of(&table)
@@ -1185,9 +1468,10 @@ fn too_large(seed: &mut Seed, number: u64) -> u64 {
     }
 }
 
-/// One number of the head or of an operation made too large.
+/// One number of the head or of an operation made too large, or the decider where it is
+/// there.
 fn enlarge(seed: &mut Seed, numbers: &mut Numbers) {
-    let kind = seed.below(8);
+    let kind = seed.below(9);
     match kind {
         0 => numbers.p = too_large(seed, numbers.p),
         1 => numbers.boards = too_large(seed, numbers.boards),
@@ -1198,6 +1482,7 @@ fn enlarge(seed: &mut Seed, numbers: &mut Numbers) {
             let mode = seed.below(numbers.follow.len() as u64) as usize;
             numbers.follow[mode] = too_large(seed, numbers.follow[mode]);
         }
+        6 if numbers.mark != 0 => numbers.decider = too_large(seed, numbers.decider),
         _ if !numbers.ops.is_empty() => {
             let place = seed.below(numbers.ops.len() as u64) as usize;
             numbers.ops[place] = too_large(seed, numbers.ops[place]);
@@ -1239,10 +1524,33 @@ fn recount_ops(seed: &mut Seed, numbers: &mut Numbers) {
     }
 }
 
+/// A decider in its range or out of it, also beyond its byte with low bits that are fine.
+fn redecide(seed: &mut Seed, numbers: &mut Numbers) {
+    let ops = (numbers.ops.len() / NUMBERS_PER_OP) as u64;
+    let last = ops.saturating_sub(1);
+    let decider = match seed.below(3) {
+        0 => seed.one_of(&[0, last, ops]),
+        1 => seed.one_of(&[31, 32, 255]),
+        _ => seed.one_of(&[256, 256 + last, 1 << 32, u64::MAX]),
+    };
+    (numbers.mark, numbers.decider) = (1, decider);
+}
+
+/// The mark says the same by any number but 0. Where it is 0 the decider is any number.
+fn remark(seed: &mut Seed, numbers: &mut Numbers) {
+    if numbers.mark != 0 {
+        numbers.mark = seed.one_of(&[1, 1, 2, 255, 256, 1 << 16, 1 << 32, 1 << 63, u64::MAX]);
+    } else if seed.once_in(2) {
+        numbers.decider = seed.one_of(&[1, 31, 32, 255, 256, 1 << 32, u64::MAX]);
+    }
+}
+
 /// Numbers with 31 to 34 operations, sometimes with one more number or fewer.
 pub fn counted_numbers(seed: &mut Seed) -> Numbers {
     let ops = seed.one_of(&[0, 31, 32, 32, 33, 34]);
-    let mut numbers = numbers_of(&table_of(seed, ops, true));
+    let mut table = table_of(seed, ops, true);
+    perhaps_count_decider(seed, &mut table);
+    let mut numbers = numbers_of(&table);
     if seed.once_in(3) {
         recount_ops(seed, &mut numbers);
     }
@@ -1253,9 +1561,10 @@ pub fn counted_numbers(seed: &mut Seed) -> Numbers {
 pub fn damaged_numbers(seed: &mut Seed) -> Numbers {
     let mut numbers = whole_numbers(seed);
     for _ in 0..seed.between(1, 3) {
-        match seed.below(4) {
+        match seed.below(5) {
             0 => recount_followers(seed, &mut numbers),
             1 => recount_ops(seed, &mut numbers),
+            2 => redecide(seed, &mut numbers),
             _ => enlarge(seed, &mut numbers),
         }
     }
@@ -1264,13 +1573,15 @@ pub fn damaged_numbers(seed: &mut Seed) -> Numbers {
 
 /// Numbers of any kind.
 pub fn numbers(seed: &mut Seed) -> Numbers {
-    match seed.below(12) {
+    let mut numbers = match seed.below(12) {
         0..=3 => whole_numbers(seed),
         4 | 5 => numbers_of(&edge_table(seed)),
         6 => counted_numbers(seed),
         7 | 8 => spoiled_numbers(seed),
         _ => damaged_numbers(seed),
-    }
+    };
+    remark(seed, &mut numbers);
+    numbers
 }
 
 // ---- rooms and questions ------------------------------------------------
@@ -1331,6 +1642,7 @@ pub fn widest() -> Table {
         first: 1,
         follow: vec![1],
         ops: vec![op(0, 1000, 1), op(0, 1, 2), op(999, 1, 4)],
+        decider: None,
     }
 }
 
@@ -1342,18 +1654,23 @@ fn lifted(set: u64, by: u64) -> u64 {
 }
 
 /// The same table with boards, cells and modes named by the highest numbers. The
-/// modes below them are reached by no run.
+/// modes below them are reached by no run. Where there is a decider, what ran in every
+/// mode runs in these too, as it must.
 pub fn relabelled(table: &Table) -> Table {
     let (boards, cells, modes) = (16 - table.boards, 32 - table.cells, 32 - table.modes);
     let mut follow: Vec<u64> = (0..modes).map(|mode| 1 << mode).collect();
     follow.extend(table.follow.iter().map(|set| lifted(*set, modes)));
+    let more = |op: &Op| match table.decider {
+        Some(_) if table.runs_in_every_mode(op) => full_set(modes),
+        _ => 0,
+    };
     let lift = |op: &Op| Op {
         start: op.start,
         dur: op.dur,
         boards: lifted(op.boards, boards),
         reads: lifted(op.reads, cells),
         writes: lifted(op.writes, cells),
-        modes: lifted(op.modes, modes),
+        modes: lifted(op.modes, modes) | more(op),
     };
     Table {
         len: table.len,
@@ -1363,5 +1680,6 @@ pub fn relabelled(table: &Table) -> Table {
         first: lifted(table.first, modes),
         follow,
         ops: table.ops.iter().map(lift).collect(),
+        decider: table.decider,
     }
 }

@@ -1,5 +1,6 @@
 //! Reading, judging and writing of tables (document 01, "The table", "Bytes",
-//! "Numbers of refusal").
+//! "Numbers of refusal"; document 02, No. 4 for the decider and No. 7 for the places
+//! where a number is wrong).
 
 /// "input ends inside a field's header or value"
 pub const SHORT: u32 = 1;
@@ -19,6 +20,9 @@ pub const RACE: u32 = 7;
 pub const ROOM: u32 = 8;
 /// "an operation number, distance or period asked for is outside its range"
 pub const ASK: u32 = 9;
+/// An operation that starts before the mode is decided, or a decider that does not run
+/// in every mode (document 02, No. 4).
+pub const EARLY: u32 = 10;
 
 /// "operations | 1 to 32": the most there may be.
 pub const MOST_OPS: usize = 32;
@@ -47,7 +51,7 @@ pub struct Op {
 }
 
 /// The table: its length p, its counts, the first modes, the followers of each
-/// mode, and the operations.
+/// mode, the operations, and "the number of the deciding operation" where it names one.
 #[derive(Clone, Debug, PartialEq, Eq)]
 pub struct Table {
     pub len: u64,
@@ -57,9 +61,12 @@ pub struct Table {
     pub first: u64,
     pub follow: Vec<u64>,
     pub ops: Vec<Op>,
+    pub decider: Option<u64>,
 }
 
-/// "A table handed over as numbers (six for each operation, in layout order)".
+/// "A table handed over as numbers (six for each operation, in layout order)". An
+/// optional number "is handed over beside these with a mark that says whether it is
+/// there": the mark is unset where it is 0, and the decider counts for nothing then.
 #[derive(Clone, Debug, PartialEq, Eq)]
 pub struct Numbers {
     pub p: u64,
@@ -69,6 +76,8 @@ pub struct Numbers {
     pub first: u64,
     pub follow: Vec<u64>,
     pub ops: Vec<u64>,
+    pub mark: u64,
+    pub decider: u64,
 }
 
 impl Numbers {
@@ -77,9 +86,14 @@ impl Numbers {
         5 + self.follow.len()
     }
 
-    /// The number at this place in layout order, over all fields.
+    /// The place of the decider, which comes after all others.
+    pub fn decider_place(&self) -> usize {
+        self.before_ops() + self.ops.len()
+    }
+
+    /// The number at this place in layout order, over all fields. The mark is in none.
     pub fn number(&mut self, place: usize) -> &mut u64 {
-        let before_ops = self.before_ops();
+        let (before_ops, decider) = (self.before_ops(), self.decider_place());
         match place {
             0 => &mut self.p,
             1 => &mut self.boards,
@@ -87,8 +101,14 @@ impl Numbers {
             3 => &mut self.modes,
             4 => &mut self.first,
             _ if place < before_ops => &mut self.follow[place - 5],
-            _ => &mut self.ops[place - before_ops],
+            _ if place < decider => &mut self.ops[place - before_ops],
+            _ => &mut self.decider,
         }
+    }
+
+    /// The decider, where the mark says that it is there.
+    pub fn marked(&self) -> Option<u64> {
+        (self.mark != 0).then(|| self.decider)
     }
 }
 
@@ -216,6 +236,11 @@ fn judge_op(at: u64, table: &Table, op: &Op) -> Result<(), Refusal> {
     judge_ranges(at, &numbers)
 }
 
+/// "a number that is no operation is RANGE"
+fn judge_decider(at: u64, ops: usize, decider: u64) -> Result<(), Refusal> {
+    judge_ranges(at, &[(1, decider, decider < ops as u64)])
+}
+
 // ---- fields as bytes ----------------------------------------------------
 
 /// The bytes and a place in them.
@@ -236,6 +261,20 @@ impl<'a> Fields<'a> {
 
     pub fn at_end(&self) -> bool {
         self.place == self.bytes.len()
+    }
+
+    /// A header with this tag comes next. One that is not whole has no tag.
+    fn comes_next(&self, tag: u8) -> bool {
+        let rest = &self.bytes[self.place..];
+        rest.len() >= 3 && rest[0] == tag
+    }
+
+    /// Nothing is due any more: "a field after 05 is ORDER", and its header has to be
+    /// complete before its tag is looked at.
+    fn end(&self) -> Result<(), Refusal> {
+        let (at, left) = (self.offset(), self.bytes.len() - self.place);
+        demand(left == 0 || left >= 3, SHORT, at)?;
+        demand(left == 0, ORDER, at)
     }
 
     /// "Within one: header complete, tag due, not a 33rd, length, value
@@ -299,21 +338,34 @@ fn op_in(value: &[u8]) -> Op {
     }
 }
 
-/// "04, length 18, once for each operation"; there is at least one.
+/// "04, length 18, once for each operation"; there is at least one. After any of them
+/// the input may end, or a field 05 come.
 fn read_ops(fields: &mut Fields, table: &mut Table) -> Result<(), Refusal> {
     loop {
         let at = fields.offset();
         let op = op_in(fields.field(0x04, 18, table.ops.len())?);
         judge_op(at, table, &op)?;
         table.ops.push(op);
-        if fields.at_end() {
+        if fields.at_end() || fields.comes_next(0x05) {
             return Ok(());
         }
     }
 }
 
+/// "An optional last field 05, length 1, gives the number of the deciding operation."
+fn read_decider(fields: &mut Fields, table: &mut Table) -> Result<(), Refusal> {
+    if fields.at_end() {
+        return Ok(());
+    }
+    let at = fields.offset();
+    let decider = number_in(fields.field(0x05, 1, 0)?);
+    judge_decider(at, table.ops.len(), decider)?;
+    table.decider = Some(decider);
+    fields.end()
+}
+
 /// "Table fields, in this order and no other", "judged left to right".
-fn read_table(bytes: &[u8]) -> Result<Table, Refusal> {
+pub fn read_table(bytes: &[u8]) -> Result<Table, Refusal> {
     let mut fields = Fields::new(bytes);
     let len = read_length(&mut fields)?;
     let (boards, cells, modes) = read_counts(&mut fields)?;
@@ -326,8 +378,10 @@ fn read_table(bytes: &[u8]) -> Result<Table, Refusal> {
         first,
         follow,
         ops: Vec::new(),
+        decider: None,
     };
     read_ops(&mut fields, &mut table)?;
+    read_decider(&mut fields, &mut table)?;
     Ok(table)
 }
 
@@ -372,16 +426,53 @@ fn no_pair(ops: &[Op], number: u32, bad: fn(&Op, &Op) -> bool) -> Result<(), Ref
     Ok(())
 }
 
-/// "Then CLASH over all pairs ...; then RACE likewise".
-pub fn judge_pairs(table: &Table) -> Result<(), Refusal> {
-    no_pair(&table.ops, CLASH, clash)?;
-    no_pair(&table.ops, RACE, race)
+// ---- the decider --------------------------------------------------------
+
+impl Table {
+    /// Every mode that the table has, whether a run reaches it or not.
+    pub fn runs_in_every_mode(&self, op: &Op) -> bool {
+        (0..self.modes).all(|mode| op.runs_in(mode))
+    }
+
+    /// "An operation that doesn't run in every mode must start at or after its end",
+    /// which is that of the decider.
+    pub fn is_too_early(&self, decider: &Op, op: &Op) -> bool {
+        !self.runs_in_every_mode(op) && op.start < decider.end()
+    }
 }
 
-/// A table handed over as bytes: its fields, then CLASH, then RACE.
+/// "with a the decider and b the lowest operation that starts too early, or b the
+/// decider itself where it doesn't run in every mode, which is tested first"
+pub fn judge_early(table: &Table) -> Result<(), Refusal> {
+    let a = match table.decider {
+        Some(decider) => decider,
+        None => return Ok(()),
+    };
+    let decider = &table.ops[a as usize];
+    let mut early = (0..).zip(&table.ops);
+    let b = if table.runs_in_every_mode(decider) {
+        let found = early.find(|(_, op)| table.is_too_early(decider, op));
+        found.map(|(b, _)| b)
+    } else {
+        Some(a)
+    };
+    let number = EARLY;
+    b.map_or(Ok(()), |b| Err(Refusal { number, a, b }))
+}
+
+// ---- a whole table ------------------------------------------------------
+
+/// "Then CLASH over all pairs ...; then RACE likewise"; "10 EARLY comes after RACE".
+pub fn judge_table(table: &Table) -> Result<(), Refusal> {
+    no_pair(&table.ops, CLASH, clash)?;
+    no_pair(&table.ops, RACE, race)?;
+    judge_early(table)
+}
+
+/// A table handed over as bytes: its fields, then CLASH, RACE and EARLY.
 pub fn judge(bytes: &[u8]) -> Result<Table, Refusal> {
     let table = read_table(bytes)?;
-    judge_pairs(&table)?;
+    judge_table(&table)?;
     Ok(table)
 }
 
@@ -431,7 +522,18 @@ fn judge_ops(table: &mut Table, numbers: &[u64]) -> Result<(), Refusal> {
     Ok(())
 }
 
-/// The table that the numbers are, with these operations.
+/// Field 05 behind the operations, "written exactly when" the mark says that it is
+/// there.
+fn judge_marked(table: &mut Table, numbers: &Numbers) -> Result<(), Refusal> {
+    let ops = table.ops.len();
+    if let Some(decider) = numbers.marked() {
+        judge_decider(op_offset(table.modes, ops as u64), ops, decider)?;
+    }
+    table.decider = numbers.marked();
+    Ok(())
+}
+
+/// The table that the numbers are, with these operations and no decider.
 fn table_with(numbers: &Numbers, ops: Vec<Op>) -> Table {
     Table {
         len: numbers.p,
@@ -441,16 +543,24 @@ fn table_with(numbers: &Numbers, ops: Vec<Op>) -> Table {
         first: numbers.first,
         follow: numbers.follow.clone(),
         ops,
+        decider: None,
     }
+}
+
+/// The fields that the numbers would be written as, "judged left to right".
+pub fn read_numbers(numbers: &Numbers) -> Result<Table, Refusal> {
+    judge_head(numbers)?;
+    let mut table = table_with(numbers, Vec::new());
+    judge_ops(&mut table, &numbers.ops)?;
+    judge_marked(&mut table, numbers)?;
+    Ok(table)
 }
 
 /// "A table handed over as numbers ... is judged as if first written in this
 /// layout and then read."
 pub fn judge_numbers(numbers: &Numbers) -> Result<Table, Refusal> {
-    judge_head(numbers)?;
-    let mut table = table_with(numbers, Vec::new());
-    judge_ops(&mut table, &numbers.ops)?;
-    judge_pairs(&table)?;
+    let table = read_numbers(numbers)?;
+    judge_table(&table)?;
     Ok(table)
 }
 
@@ -508,6 +618,9 @@ pub fn bytes_of(table: &Table) -> Vec<u8> {
     for op in &table.ops {
         push_field(&mut out, 0x04, &op_value(op));
     }
+    if let Some(decider) = table.decider {
+        push_field(&mut out, 0x05, &[decider as u8]);
+    }
     out
 }
 
@@ -525,14 +638,19 @@ pub fn numbers_of(table: &Table) -> Numbers {
         first: table.first,
         follow: table.follow.clone(),
         ops,
+        mark: u64::from(table.decider.is_some()),
+        decider: table.decider.unwrap_or(0),
     }
 }
 
 /// The numbers in the layout, as `bytes_of` writes a table; an operation with
-/// numbers missing is left out.
+/// numbers missing is left out, and nothing is written behind it.
 pub fn bytes_of_numbers(numbers: &Numbers) -> Vec<u8> {
     let whole = numbers.ops.chunks_exact(NUMBERS_PER_OP);
-    bytes_of(&table_with(numbers, whole.map(op_of).collect()))
+    let all_whole = whole.remainder().is_empty();
+    let mut table = table_with(numbers, whole.map(op_of).collect());
+    table.decider = numbers.marked().filter(|_| all_whole);
+    bytes_of(&table)
 }
 
 /// "Success writes the stated bytes from the front and leaves the rest of the

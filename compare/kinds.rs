@@ -1,7 +1,7 @@
 //! Kinds of tables on which a planner that knows of walks only may be wrong. Of each
 //! table it is the runs, laid out, that tell its kinds.
 
-use crate::judge::{has, Table, MOST_OPS};
+use crate::judge::{has, Op, Table, MOST_OPS};
 use crate::runs::{self, smallest, Run, Source, Wrong};
 
 /// What all runs of a table show.
@@ -79,7 +79,7 @@ impl<'a> Shown<'a> {
 /// A kind: its name, and whether a table is of it.
 type Kind = (&'static str, fn(&Shown<'_>) -> bool);
 
-pub const KINDS: [Kind; 13] = [
+pub const KINDS: [Kind; 18] = [
     (
         "a mode that no run reaches, and an operation only there that would ask for more",
         asks_unreached,
@@ -116,6 +116,33 @@ pub const KINDS: [Kind; 13] = [
     ("cycles two or more apart decide", is_decided_far),
     ("boards two or more cycles apart decide", has_far_boards),
     ("values carried two or more cycles decide", has_far_values),
+    ("an operation that decides the mode", |shown| {
+        shown.table.decider.is_some()
+    }),
+    (
+        "a decider that starts before that of the cycle before has ended, at a wrong period",
+        |shown| shown.wrong.turns != 0,
+    ),
+    (
+        "a decider that alone asks for all of the period",
+        is_asked_by_decider,
+    ),
+    (
+        "an operation that waits for the decider and starts when it has ended",
+        |shown| {
+            any_beside(shown, |table, decider, op| {
+                !table.runs_in_every_mode(op) && op.start == decider.end()
+            })
+        },
+    ),
+    (
+        "an operation in every mode that does not wait for the decider",
+        |shown| {
+            any_beside(shown, |table, decider, op| {
+                table.modes > 1 && op.start < decider.end()
+            })
+        },
+    ),
 ];
 
 /// With every mode a first mode, the operations that no run has make the period
@@ -124,6 +151,7 @@ fn asks_unreached(shown: &Shown<'_>) -> bool {
     let table = shown.table;
     let every = Table {
         first: (1 << table.modes) - 1,
+        decider: None,
         ..table.clone()
     };
     let ran = (0..).zip(&table.ops).filter(|(op, _)| has(shown.ran, *op));
@@ -165,4 +193,19 @@ fn has_far_boards(shown: &Shown<'_>) -> bool {
 /// It would be smaller if values were carried over one turn only.
 fn has_far_values(shown: &Shown<'_>) -> bool {
     smallest(shown.wrong.boards | shown.wrong.near_values) < shown.period()
+}
+
+/// The period is above 1, and the decider asks for all of it by its own turns.
+fn is_asked_by_decider(shown: &Shown<'_>) -> bool {
+    shown.period() > 1 && smallest(shown.wrong.turns) == shown.period()
+}
+
+/// Some operation beside the decider, which is handed over with it.
+fn any_beside(shown: &Shown<'_>, test: fn(&Table, &Op, &Op) -> bool) -> bool {
+    let table = shown.table;
+    table.decider.map_or(false, |number| {
+        let decider = &table.ops[number as usize];
+        let mut others = (0..).zip(&table.ops).filter(|(one, _)| *one != number);
+        others.any(|(_, op)| test(table, decider, op))
+    })
 }

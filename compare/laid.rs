@@ -92,8 +92,9 @@ fn changed(table: &Table, change: fn(usize, &mut Op)) -> Table {
 }
 
 /// The table; by the highest names; without cells, so that only boards decide; with a
-/// board for each operation, so that values decide, and each operation by itself.
-fn questions(table: &Table, wrong: &Wrong) -> [Question; 4] {
+/// board for each operation, so that values decide, and each operation by itself; and where
+/// there is a decider, without it, which changes no period.
+fn questions(table: &Table, wrong: &Wrong) -> Vec<Question> {
     let question = |name, table, boards, values| Question {
         name,
         table,
@@ -104,12 +105,18 @@ fn questions(table: &Table, wrong: &Wrong) -> [Question; 4] {
     let no_cells = changed(table, |_, op| (op.reads, op.writes) = (0, 0));
     let mut own_boards = changed(table, |i, op| op.boards = 1 << i);
     own_boards.boards = table.ops.len() as u64;
-    [
+    let mut all = vec![
         question("the table", table.clone(), wrong.boards, wrong.values),
         question("other names", renamed, wrong.boards, wrong.values),
         question("no cells", no_cells, wrong.boards, 0),
         question("own boards", own_boards, wrong.own_boards, wrong.values),
-    ]
+    ];
+    if table.decider.is_some() {
+        let mut table = table.clone();
+        table.decider = None;
+        all.push(question("no decider", table, wrong.boards, wrong.values));
+    }
+    all
 }
 
 /// An answer as the library tells it.
@@ -182,6 +189,17 @@ fn compare_question(question: &Question, found: &mut Found) {
     check(walks::period(table) == period, "period by walks", period);
 }
 
+/// "Show that at a right period the decider of one cycle never starts before that of the
+/// cycle before has ended": so it is in all runs, at every right period; and at each period
+/// an operation that does not run in every mode waits for its own cycle's decider.
+fn check_decider(table: &Table, wrong: &Wrong, found: &mut Found) {
+    for q in 1..=table.len {
+        let in_turn = has(wrong.all(), q) || !has(wrong.turns, q);
+        found.check(in_turn, "the deciders' turns", q, table);
+        found.check(!has(wrong.early, q), "what waits for the decider", q, table);
+    }
+}
+
 /// All runs of the length that is enough; sometimes also all shorter ones, and those
 /// that are up to two cycles longer.
 fn compare_table(table: &Table, longer: bool, found: &mut Found) {
@@ -194,12 +212,24 @@ fn compare_table(table: &Table, longer: bool, found: &mut Found) {
     let shown = Shown::by_runs(table, lengths);
     found.note_kinds(&shown);
     found.note_words(table, &shown.wrong);
+    check_decider(table, &shown.wrong, found);
     for question in &questions(table, &shown.wrong) {
         compare_question(question, found);
     }
 }
 
 // ---- long runs ----------------------------------------------------------
+
+/// Of one run of a table with a decider: its deciders take turns where the library says yes twice,
+/// and what does not run in every mode waits for them at every period.
+fn check_decider_of(run: &Run<'_>, q: u64, right: bool, found: &mut Found) {
+    if run.table.decider.is_some() {
+        let in_turn = !right || run.decides_in_turn(q);
+        found.check(in_turn, "the deciders' turns, long run", q, run.table);
+        let first = run.decides_first(q);
+        found.check(first, "what waits for the decider, long run", q, run.table);
+    }
+}
 
 /// The library's period of a larger table is that by walks. At it and at a drawn period, both
 /// questions are answered as walks answer them, and a long drawn run says yes where the library
@@ -213,6 +243,7 @@ fn compare_long_run(seed: &mut Seed, found: &mut Found) {
     let modes = drawn_run(seed, &table);
     let run = Run::new(&table, &modes);
     for q in [period, seed.between(1, table.len)] {
+        let mut both = true;
         for asked in [BOARDS, VALUES] {
             let yes = (asked.walks)(&table, q);
             let answer = (asked.library)(&mut bytes, q);
@@ -220,7 +251,9 @@ fn compare_long_run(seed: &mut Seed, found: &mut Found) {
             found.check(answer == told(u64::from(yes)), &what, q, &table);
             let what = format!("{}, run {:?}", asked.name, modes);
             found.check(answer != told(1) || (asked.run)(&run, q), &what, q, &table);
+            both &= answer == told(1);
         }
+        check_decider_of(&run, q, both, found);
     }
 }
 

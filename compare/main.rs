@@ -27,6 +27,7 @@ mod answers;
 mod asking;
 mod blamed;
 mod bytewise;
+mod deciders;
 mod examples;
 mod findings;
 mod generate;

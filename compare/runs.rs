@@ -1,4 +1,5 @@
-//! Runs laid out one by one, as the definitions have them (document 01, "Runs and right periods").
+//! Runs laid out one by one, as the definitions have them (document 01, "Runs and right periods"), and what is said of
+//! their deciders (document 02, No. 4).
 //!
 //! For small tables. Nothing here knows of reached modes, of last writers or of walks.
 
@@ -122,14 +123,22 @@ fn sources(table: &Table, all: &[Instance]) -> Vec<Source> {
     found
 }
 
+/// The decider in the cycles in which it runs, in their order.
+fn deciders(table: &Table, all: &[Instance]) -> Vec<Instance> {
+    let is_decider = |who: &Instance| table.decider == Some(who.op as u64);
+    all.iter().copied().filter(is_decider).collect()
+}
+
 // ---- one run ------------------------------------------------------------
 
 /// A run, laid out.
 pub struct Run<'a> {
     pub table: &'a Table,
     pub all: Vec<Instance>,
+    cycles: usize,
     pairs: Vec<(Instance, Instance)>,
     pub sources: Vec<Source>,
+    deciders: Vec<Instance>,
 }
 
 impl<'a> Run<'a> {
@@ -138,6 +147,8 @@ impl<'a> Run<'a> {
         Run {
             pairs: pairs_on_a_board(table, &all),
             sources: sources(table, &all),
+            deciders: deciders(table, &all),
+            cycles: modes.len(),
             table,
             all,
         }
@@ -168,6 +179,32 @@ impl<'a> Run<'a> {
     /// Of this run, with every source: the values arrive.
     pub fn values_arrive(&self, q: u64) -> bool {
         self.has_right_values(q, any)
+    }
+
+    /// One instance has ended when another starts.
+    fn is_over(&self, one: Instance, other: Instance, q: u64) -> bool {
+        end_of(self.table, one, q) <= start_of(self.table, other, q)
+    }
+
+    /// Each cycle has a decider, and "the decider of one cycle never starts before that of
+    /// the cycle before has ended".
+    pub fn decides_in_turn(&self, q: u64) -> bool {
+        let mut neighbours = self.deciders.windows(2);
+        self.deciders.len() == self.cycles && neighbours.all(|two| self.is_over(two[0], two[1], q))
+    }
+
+    /// The decider of this instance's own cycle has ended when it starts.
+    fn is_decided(&self, who: Instance, q: u64) -> bool {
+        let mut deciders = self.deciders.iter();
+        deciders.any(|decider| decider.cycle == who.cycle && self.is_over(*decider, who, q))
+    }
+
+    /// All that does not run in every mode waits for its own cycle's decider.
+    pub fn decides_first(&self, q: u64) -> bool {
+        let ops = &self.table.ops;
+        let in_every_mode = |who: &Instance| self.table.runs_in_every_mode(&ops[who.op]);
+        let mut all = self.all.iter();
+        all.all(|who| in_every_mode(who) || self.is_decided(*who, q))
     }
 }
 
@@ -251,6 +288,12 @@ pub struct Wrong {
     pub values: u64,
     /// It is at most one cycle earlier.
     pub near_values: u64,
+    /// Of a table with a decider: a cycle has none, or it starts before that of the cycle
+    /// before has ended.
+    pub turns: u64,
+    /// Of a table with a decider: something that does not run in every mode starts before
+    /// it has ended.
+    pub early: u64,
 }
 
 impl Wrong {
@@ -263,6 +306,10 @@ impl Wrong {
             note(&mut self.near_boards, run.has_right_boards(q, near));
             note(&mut self.values, run.values_arrive(q));
             note(&mut self.near_values, run.has_right_values(q, near));
+            if run.table.decider.is_some() {
+                note(&mut self.turns, run.decides_in_turn(q));
+                note(&mut self.early, run.decides_first(q));
+            }
         }
     }
 

@@ -2,14 +2,15 @@
 //! What the tables of `examples/` fold to stands in their comments and is checked there.
 
 use crate::answers::{boards_fit, margin, plan, start_bytes, text, unfold, values_arrive};
-use crate::answers::{LONGEST_REPLY, LONGEST_STARTS, LONGEST_TABLE, LONGEST_TEXT};
+use crate::answers::{DECIDER_FIELD, LONGEST_REPLY, LONGEST_STARTS, LONGEST_TABLE, LONGEST_TEXT};
 use crate::asking::lines_are_as_said;
 use crate::blamed;
 use crate::examples::K1;
+use crate::findings::NAMES;
 use crate::generate::{self, Seed};
 use crate::hex::bytes_in;
-use crate::judge::{bytes_of, judge, judge_numbers, numbers_of, push_number, write_table};
-use crate::judge::{Numbers, Refusal, Table};
+use crate::judge::{bytes_of, bytes_of_numbers, judge, judge_numbers, numbers_of, push_number};
+use crate::judge::{read_table, write_table, Numbers, Refusal, Table};
 use crate::picture::{escaped, svg, tick, Panel, Point};
 use crate::runs::{taken_from, Run};
 use crate::stack;
@@ -149,9 +150,18 @@ fn margins(tally: &mut Tally) {
 
 // ---- the largest table --------------------------------------------------
 
-/// The sizes that are named in the header.
-fn sizes(tally: &mut Tally) {
+/// A line of the header.
+fn check_named(tally: &mut Tally, name: &str, number: usize) {
     let header = include_str!("../include/trevozhil.h");
+    let line = format!("#define TREVOZHIL_{} {}", name, number);
+    tally.check(&line, header.lines().any(|named| named == line));
+}
+
+/// The numbers of refusal and the sizes that are named in the header.
+fn named(tally: &mut Tally) {
+    for (number, name) in NAMES.iter().enumerate().skip(1) {
+        check_named(tally, name, number);
+    }
     for (name, size) in [
         ("LONGEST_TABLE", LONGEST_TABLE),
         ("LONGEST_REPLY", LONGEST_REPLY),
@@ -159,26 +169,28 @@ fn sizes(tally: &mut Tally) {
         ("LONGEST_TEXT", LONGEST_TEXT),
         ("STACK", stack::RESERVE),
     ] {
-        let line = format!("#define TREVOZHIL_{} {}", name, size);
-        tally.check(&line, header.lines().any(|named| named == line));
+        check_named(tally, name, size);
     }
 }
 
-/// The example has every count at its highest, and its last operation decides.
+/// The example has every count at its highest, and its last operation decides its period. It
+/// names no decider; one behind it is read, and operations start before that one's end.
 fn largest_example(tally: &mut Tally) {
     let bytes = from_hex(include_str!("../examples/largest.hex"));
-    tally.check("largest", bytes.len() == LONGEST_TABLE);
+    tally.check("largest", bytes.len() == LONGEST_TABLE - DECIDER_FIELD);
     let table = judge(&bytes).expect("the example is accepted");
     let counts = (table.len, table.boards, table.cells, table.modes);
     tally.check("counts", counts == (1000, 16, 32, 32));
     tally.check("largest at 198", text(&bytes).starts_with("period 198\n"));
-    let fewer = &bytes[..LONGEST_TABLE - 21];
+    let fewer = &bytes[..bytes.len() - 21];
     tally.check("without the last", text(fewer).starts_with("period 185\n"));
+    tally.refused("largest", &joined(&bytes, "05 00 01 1c"), (10, 28, 0));
+    tally.refused("largest", &joined(&bytes, "05 00 01 20"), (4, 818, 821));
 }
 
 /// Nothing is longer than the sizes say.
 fn within_sizes(tally: &mut Tally, seed: &mut Seed) {
-    let bytes = bytes_of(&generate::largest(seed));
+    let bytes = bytes_of(&generate::any_largest(seed));
     tally.check("table's size", bytes.len() <= LONGEST_TABLE);
     tally.check("text's size", text(&bytes).len() <= LONGEST_TEXT);
     let (mut reply, mut starts) = ([0; LONGEST_REPLY], [0; LONGEST_STARTS]);
@@ -279,7 +291,10 @@ fn points_of_size(tally: &mut Tally) {
     tally.refused("5", &from_hex("01 ff ff"), (3, 0, 0));
     tally.refused("6", &joined(&k1_times(32), "04"), (1, 694, 0));
     tally.refused("6", &joined(&k1_times(32), "04 00 00"), (5, 694, 0));
-    tally.refused("6", &joined(&k1_times(32), "05 00 01 00"), (2, 694, 0));
+    tally.refused("6", &joined(&k1_times(32), "05 00 01"), (1, 694, 0));
+    tally.refused("6", &joined(&k1_times(32), "05 00 01 1f"), (6, 0, 1));
+    tally.refused("6", &joined(&k1_times(32), "05 00 01 20"), (4, 694, 697));
+    tally.refused("6", &joined(&k1_times(33), "05 00 01 00"), (5, 694, 0));
     let mut reply = from_hex("11 00 02 00 03");
     for _ in 0..32 {
         reply.extend_from_slice(&from_hex("12 00 04 00 01 00 00"));
@@ -315,25 +330,42 @@ fn points_of_pairs(tally: &mut Tally) {
 const UNREACHED_CLASH: &str = "0100020004 020003010002 03000c000000010000000100000002 \
     040012000000020001000000000000000000000002 040012000100020001000000000000000000000002";
 
-/// Points 10 and 11: pairs count unreachable modes; no bytes past 821 count.
+const UNREACHED_DECIDER: &str = "0100020004 020003020002 03000c000000010000000100000002 \
+    040012000000010001000000000000000000000001 040012000100010002000000000000000000000001 05000100";
+
+/// Point 10: pairs count unreachable modes, and so does "every mode" of the decider.
 fn points_of_reach(tally: &mut Tally) {
     tally.refused("10", &from_hex(UNREACHED_CLASH), (6, 0, 1));
-    let mut seed = Seed::new(1);
-    let mut table = generate::largest(&mut seed);
-    while table.ops.len() < 32 {
-        table = generate::largest(&mut seed);
+    tally.refused("10", &from_hex(UNREACHED_DECIDER), (10, 0, 0));
+}
+
+/// Point 11: "01's 818 and 821 bytes become 822 and 825". Behind 818 bytes a field 05 may
+/// come; behind 822 nothing may.
+fn points_of_length(tally: &mut Tally) {
+    let longest = from_hex(include_str!("../examples/largest.hex"));
+    let table = generate::longest_decided(&mut Seed::new(1));
+    let decided = bytes_of(&table);
+    check_written(tally, "11", &numbers_of(&table), &decided);
+    for (bytes, length) in [(&longest, 818), (&decided, LONGEST_TABLE)] {
+        tally.check("11", bytes.len() == length && judge(bytes).is_ok());
     }
-    let longest = bytes_of(&table);
-    tally.check(
-        "11 length",
-        longest.len() == LONGEST_TABLE && judge(&longest).is_ok(),
-    );
     tally.refused("11", &joined(&longest, "04 00"), (1, 818, 0));
     tally.refused("11", &joined(&longest, "04 00 12"), (5, 818, 0));
     tally.refused("11", &joined(&longest, "00 00 12"), (2, 818, 0));
-    let mut more = joined(&longest, "04 00 12");
-    more.resize(5000, 4);
-    tally.refused("11", &more, (5, 818, 0));
+    tally.refused("11", &joined(&longest, "05 00 12"), (3, 818, 0));
+    tally.refused("11", &joined(&longest, "05 00 01"), (1, 818, 0));
+    for more in ["04", "04 00", "05 00", "00 00"] {
+        tally.refused("11", &joined(&decided, more), (1, 822, 0));
+    }
+    for more in ["04 00 12", "05 00 01", "05 00 01 00", "00 00 00"] {
+        tally.refused("11", &joined(&decided, more), (2, 822, 0));
+        let mut longer = joined(&decided, more);
+        longer.resize(5000, 4);
+        tally.refused("11", &longer, (2, 822, 0));
+    }
+    let mut longer = joined(&longest, "04 00 12");
+    longer.resize(5000, 4);
+    tally.refused("11", &longer, (5, 818, 0));
 }
 
 /// K1 as numbers.
@@ -347,6 +379,8 @@ fn k1_numbers() -> Numbers {
         first: 1,
         follow: vec![1],
         ops,
+        mark: 0,
+        decider: 0,
     }
 }
 
@@ -423,6 +457,271 @@ fn points_of_large_numbers(tally: &mut Tally) {
         let mut ops = k1_numbers().ops;
         ops[place] = u64::MAX;
         tally.numbers_refused("13", &k1_ops(ops), (4, 22, b));
+    }
+}
+
+// ---- the decider --------------------------------------------------------
+
+/// K1 with its only operation as the decider.
+fn k1_decided() -> Vec<u8> {
+    joined(&k1(), "05 00 01 00")
+}
+
+/// Point 24: the field. K1 is planned with it as without it.
+fn points_of_decider_field(tally: &mut Tally) {
+    let (k1, head) = (k1(), k1()[..22].to_vec());
+    let table = judge(&k1_decided());
+    tally.check("24", table.map(|table| table.decider) == Ok(Some(0)));
+    tally.check(
+        "24",
+        text(&k1_decided()) == "period 3\nop 0 start 1 fst 0\n",
+    );
+    tally.check("24", judge(&k1).map(|table| table.decider) == Ok(None));
+    for more in ["05", "05 00", "05 00 01"] {
+        tally.refused("24", &joined(&k1, more), (1, 43, 0));
+    }
+    for more in [
+        "05 00 00",
+        "05 00 02 00 00",
+        "05 00 12",
+        "05 01 01 00",
+        "05 ff ff",
+    ] {
+        tally.refused("24", &joined(&k1, more), (3, 43, 0));
+    }
+    for more in [
+        "05 00 01 01",
+        "05 00 01 ff",
+        "05 00 01 01 04",
+        "05 00 01 01 05 00 01 00",
+    ] {
+        tally.refused("24", &joined(&k1, more), (4, 43, 46));
+    }
+    let both = changed(&joined(&k1, "05 00 01 01"), 27, "0005");
+    tally.refused("24 left to right", &both, (4, 22, 27));
+    tally.refused("24", &joined(&head, "05"), (1, 22, 0));
+    tally.refused("24", &joined(&head, "05 00"), (1, 22, 0));
+    tally.refused("24", &joined(&head, "05 00 01 00"), (2, 22, 0));
+    let before = [&joined(&head, "05 00 01 00")[..], &k1[22..]].concat();
+    tally.refused("24", &before, (2, 22, 0));
+    for (at, a) in [(0, 0), (5, 5), (11, 11)] {
+        tally.refused("24", &joined(&k1[..at], "05 00 01 00"), (2, a, 0));
+    }
+}
+
+/// Point 24: "a field after 05 is ORDER", whatever its tag, length and value; a header that is
+/// not whole is SHORT.
+fn points_behind_decider(tally: &mut Tally) {
+    let decided = k1_decided();
+    for byte in 0..=255 {
+        let behind = |more: &[u8]| [&decided[..], more].concat();
+        tally.refused("24 one", &behind(&[byte]), (1, 47, 0));
+        tally.refused("24 two", &behind(&[byte, 0]), (1, 47, 0));
+        tally.refused("24 three", &behind(&[byte, 0, 1]), (2, 47, 0));
+        tally.refused("24 four", &behind(&[byte, 0, 1, 0]), (2, 47, 0));
+    }
+    tally.refused("24", &joined(&decided, "04 00 12"), (2, 47, 0));
+    let operation = [&decided[..], &k1()[22..]].concat();
+    tally.refused("24", &operation, (2, 47, 0));
+    let many = joined(&k1_times(32), "05 00 01 00");
+    tally.refused("24", &joined(&many, "04"), (1, 698, 0));
+    tally.refused("24", &joined(&many, "04 00 12"), (2, 698, 0));
+    tally.refused("24", &[&many[..], &k1()[22..]].concat(), (2, 698, 0));
+}
+
+/// Two modes, and no run reaches mode 1. On boards of their own [0,1) and the decider [1,3) in
+/// both modes, [3,4) in mode 0, [4,5) in mode 1. The fields of the operations are at 26, 47, 68
+/// and 89, field 05 is at 110.
+const DECIDED: &str = "0100020006 020003040102 03000c000000010000000100000002 \
+    040012000000010001000000000000000000000003 040012000100020002000000000000000000000003 \
+    040012000300010004000000000000000000000001 040012000400010008000000000000000000000002 05000101";
+
+/// Bytes from offsets on that leave it accepted. An operation that runs in every mode may start
+/// before the decider's end, and one that does not may start at it. Any that runs in every mode
+/// may be the decider, where the others wait for its end.
+const IN_TIME: [&[(usize, &str)]; 10] = [
+    &[],
+    &[(71, "0004")],
+    &[(71, "0003"), (92, "0003")],
+    &[(50, "0001 0001"), (71, "0002"), (92, "0002")],
+    &[(50, "0001 0003"), (71, "0004")],
+    &[(50, "0000 0003"), (92, "0003")],
+    &[(71, "0000"), (85, "00000003")],
+    &[
+        (71, "0002"),
+        (85, "00000003"),
+        (92, "0001"),
+        (106, "00000003"),
+    ],
+    &[(29, "0000 0003"), (113, "00")],
+    &[(113, "00")],
+];
+
+/// Others, and how it is then refused: "with a the decider and b the lowest operation that
+/// starts too early, or b the decider itself where it doesn't run in every mode, which is tested
+/// first". It comes after RANGE, CLASH and RACE.
+const TOO_EARLY: [(&[(usize, &str)], (u32, u64, u64)); 20] = [
+    (&[(71, "0002")], (10, 1, 2)),
+    (&[(71, "0000")], (10, 1, 2)),
+    (&[(92, "0002")], (10, 1, 3)),
+    (&[(71, "0002"), (92, "0002")], (10, 1, 2)),
+    (&[(50, "0001 0003")], (10, 1, 2)),
+    (&[(50, "0002 0002")], (10, 1, 2)),
+    (&[(50, "0001 0003"), (71, "0004"), (92, "0003")], (10, 1, 3)),
+    (&[(43, "00000001")], (10, 1, 0)),
+    (&[(43, "00000002"), (71, "0002")], (10, 1, 0)),
+    (&[(64, "00000001")], (10, 1, 1)),
+    (&[(64, "00000002")], (10, 1, 1)),
+    (&[(64, "00000001"), (43, "00000001")], (10, 1, 1)),
+    (&[(113, "02")], (10, 2, 2)),
+    (&[(113, "03")], (10, 3, 3)),
+    (&[(113, "00"), (29, "0000 0004")], (10, 0, 2)),
+    (&[(113, "04")], (4, 110, 113)),
+    (&[(113, "04"), (64, "00000001")], (4, 110, 113)),
+    (&[(71, "0002 0001 0002")], (6, 1, 2)),
+    (
+        &[(60, "00000001"), (71, "0002"), (77, "00000001")],
+        (7, 1, 2),
+    ),
+    (
+        &[(64, "00000001"), (92, "0003 0001 0004"), (106, "00000001")],
+        (6, 2, 3),
+    ),
+];
+
+/// The table with all of the changes.
+fn changed_all(changes: &[(usize, &str)]) -> Vec<u8> {
+    let change = |bytes: Vec<u8>, (at, digits): &(usize, &str)| changed(&bytes, *at, digits);
+    changes.iter().fold(from_hex(DECIDED), change)
+}
+
+/// Points 10 and 25: what is in time is planned as it is without a decider; what is too early
+/// is refused as bytes and as numbers.
+fn points_of_early(tally: &mut Tally) {
+    for changes in IN_TIME {
+        let bytes = changed_all(changes);
+        let name = format!("25 {:?}", changes);
+        let table = judge(&bytes);
+        tally.check(&name, table.as_ref().map(bytes_of) == Ok(bytes.clone()));
+        tally.check(&name, text(&bytes) == text(&bytes[..110]));
+        tally.check(&name, text(&bytes).starts_with("period "));
+    }
+    for (changes, figures) in TOO_EARLY {
+        let bytes = changed_all(changes);
+        let name = format!("25 {:?}", changes);
+        tally.refused(&name, &bytes, figures);
+        if let Ok(table) = read_table(&bytes) {
+            tally.numbers_refused(&name, &numbers_of(&table), figures);
+        }
+    }
+}
+
+/// EARLY comes before ROOM; ASK and ROOM come as without a decider.
+fn points_after_early(tally: &mut Tally) {
+    let early = changed_all(&[(71, "0002")]);
+    let refusal = Err(refusal_of((10, 1, 2)));
+    tally.check("25 room", plan(&early, &mut []) == refusal);
+    let table = read_table(&early).expect("its fields are good");
+    tally.check(
+        "25 room",
+        write_table(&numbers_of(&table), &mut []) == refusal,
+    );
+    let good = from_hex(DECIDED);
+    tally.check(
+        "25 room",
+        plan(&good, &mut [0; 32]) == Err(refusal_of((8, 33, 0))),
+    );
+    tally.check("25 room", plan(&good, &mut [0; 33]) == Ok(33));
+    tally.check("25 ask", boards_fit(&good, 7) == Err(refusal_of((9, 0, 0))));
+    tally.check(
+        "25 ask",
+        margin(&good, 1, 4, 1, 2) == Err(refusal_of((9, 1, 0))),
+    );
+    tally.check("25 margin", margin(&good, 1, 1, 1, 2) == Ok(0));
+}
+
+/// K1 as numbers with this mark and this decider.
+fn k1_marked(mark: u64, decider: u64) -> Numbers {
+    Numbers {
+        mark,
+        decider,
+        ..k1_numbers()
+    }
+}
+
+/// The numbers are written as these bytes, and into no fewer.
+fn check_written(tally: &mut Tally, name: &str, numbers: &Numbers, bytes: &[u8]) {
+    let (length, mut out) = (bytes.len(), vec![9; bytes.len() + 1]);
+    tally.check(name, write_table(numbers, &mut out) == Ok(length));
+    tally.check(name, out[..length] == *bytes && out[length] == 9);
+    let few = write_table(numbers, &mut out[..length - 1]);
+    tally.check(name, few == Err(refusal_of((8, length as u64, 0))));
+}
+
+/// Points 13 and 15: the mark is unset where it is 0, and then the decider counts for nothing
+/// and is not written; by every other mark it is there.
+fn points_of_marks(tally: &mut Tally) {
+    for decider in [0, 1, 255, 256, 1 << 32, u64::MAX] {
+        check_written(tally, "15", &k1_marked(0, decider), &k1());
+    }
+    for mark in [1, 2, 256, 1 << 16, 1 << 32, 1 << 63, u64::MAX] {
+        check_written(tally, "15", &k1_marked(mark, 0), &k1_decided());
+        for decider in [1, 31, 32, 255, 256, 257, 1 << 32, u64::MAX] {
+            let mut numbers = k1_marked(mark, decider);
+            tally.numbers_refused("13", &numbers, (4, 43, 46));
+            numbers.ops[1] = 5;
+            tally.numbers_refused("13 left to right", &numbers, (4, 22, 27));
+        }
+    }
+}
+
+/// As if written and read: nothing is written behind an operation with numbers missing, and
+/// field 05 stands where an operation is due, or behind a 33rd one.
+fn points_of_marked_numbers(tally: &mut Tally) {
+    for (mark, decider) in [(0, 0), (1, 0), (1, 1), (1, 256), (u64::MAX, u64::MAX)] {
+        let mut numbers = k1_marked(mark, decider);
+        let six = numbers.ops.clone();
+        for length in 1..6 {
+            numbers.ops.truncate(6 - length);
+            tally.numbers_refused("15 few", &numbers, (1, 22, 0));
+        }
+        numbers.ops.clear();
+        tally.numbers_refused("15 none", &numbers, (2, 22, 0));
+        numbers.ops = [&six[..], &[0]].concat();
+        tally.numbers_refused("15 more", &numbers, (1, 43, 0));
+        numbers.ops = six.repeat(33);
+        tally.numbers_refused("15 many", &numbers, (5, 694, 0));
+        numbers.ops = six;
+        numbers.follow.push(1);
+        tally.numbers_refused("15 words", &numbers, (3, 11, 0));
+    }
+    let all = Numbers {
+        ops: k1_numbers().ops.repeat(32),
+        ..k1_marked(1, 32)
+    };
+    tally.numbers_refused("15 beyond", &all, (4, 694, 697));
+}
+
+/// Of runs laid out. The decider lasts two ticks, so its turns are kept from period 2 on. An
+/// operation [2,3) of mode 0 does not wait for it, whatever the period. In a mode in which it
+/// does not run a cycle has none, and in the others it would have to wait for itself.
+fn decider_in_runs(tally: &mut Tally) {
+    let table = judge(&from_hex(DECIDED)).expect("it is accepted");
+    let run = Run::new(&table, &[0, 0, 0]);
+    for (q, in_turn) in [(1, false), (2, true), (3, true), (6, true)] {
+        tally.check("turns", run.decides_in_turn(q) == in_turn);
+        tally.check("waits", run.decides_first(q));
+    }
+    let early = read_table(&changed_all(&[(71, "0002")])).expect("its fields are good");
+    let run = Run::new(&early, &[0, 0]);
+    tally.check("early", [1, 2, 6].iter().all(|q| !run.decides_first(*q)));
+    let run = Run::new(&early, &[1, 1]);
+    tally.check("does not run", run.decides_first(6));
+    let missing = read_table(&changed_all(&[(64, "00000001")])).expect("its fields are good");
+    for (modes, decided) in [([0, 0], true), ([0, 1], false), ([1, 1], false)] {
+        let run = Run::new(&missing, &modes);
+        tally.check("in each cycle", run.decides_in_turn(6) == decided);
+        tally.check("waits for itself", !run.decides_first(6));
     }
 }
 
@@ -707,10 +1006,11 @@ fn words(tally: &mut Tally) {
 
 // ---- checks on drawn inputs ---------------------------------------------
 
-/// K1 cut at every length: SHORT inside a field, ORDER between fields.
+/// K1 with a decider cut at every length: SHORT inside a field, ORDER between fields; whole
+/// with the decider's field and without it.
 fn cuts(tally: &mut Tally) {
     let starts = [0, 5, 11, 22, 43];
-    for bytes in generate::all_cuts(&k1()) {
+    for bytes in generate::all_cuts(&k1_decided()) {
         let length = bytes.len() as u64;
         let field = starts
             .iter()
@@ -719,7 +1019,7 @@ fn cuts(tally: &mut Tally) {
             .copied()
             .unwrap_or(0);
         match (length, field) {
-            (43, _) => tally.check("whole", judge(&bytes).is_ok()),
+            (43 | 47, _) => tally.check("whole", judge(&bytes).is_ok()),
             (at, start) if at == start => tally.refused("cut", &bytes, (2, at, 0)),
             (_, start) => tally.refused("cut", &bytes, (1, start, 0)),
         }
@@ -745,14 +1045,16 @@ fn round_trips(tally: &mut Tally, seed: &mut Seed) {
     let expected = start_bytes(table.ops.iter().map(|op| op.start));
     tally.check("starts", starts[..expected.len()] == expected[..]);
     tally.check("p is right", right(&table, table.len));
-    tally.check(
-        "numbers",
-        judge_numbers(&numbers_of(&table)).as_ref() == Ok(&table),
-    );
+    let numbers = numbers_of(&table);
+    tally.check("numbers", judge_numbers(&numbers).as_ref() == Ok(&table));
+    tally.check("as written", bytes_of_numbers(&numbers) == bytes);
+    let decider = None;
+    let undecided = bytes_of(&Table { decider, ..table });
+    tally.check("without its decider", text(&undecided) == text(&bytes));
 }
 
 /// The layout of numbers that fit their fields, written without judging them; an
-/// operation with numbers missing stops where they do.
+/// operation with numbers missing stops where they do, and so does the table.
 fn written(numbers: &Numbers) -> Option<Vec<u8>> {
     let words = [&[numbers.first][..], &numbers.follow[..]].concat();
     let widths = [2, 2, 2, 4, 4, 4];
@@ -763,7 +1065,12 @@ fn written(numbers: &Numbers) -> Option<Vec<u8>> {
         .all(|(i, n)| n >> (8 * widths[i % 6]) == 0);
     let counts = [numbers.boards, numbers.cells, numbers.modes];
     let head_fits = numbers.p >> 16 == 0 && counts.iter().all(|n| n >> 8 == 0);
-    if !ops_fit || !head_fits || words.len() > 16000 || words.iter().any(|n| n >> 32 != 0) {
+    let has_decider = numbers.mark != 0 && numbers.ops.len() % 6 == 0;
+    let decider_fits = !has_decider || numbers.decider >> 8 == 0;
+    if !ops_fit || !head_fits || !decider_fits || words.len() > 16000 {
+        return None;
+    }
+    if words.iter().any(|n| n >> 32 != 0) {
         return None;
     }
     let mut out = vec![0x01, 0, 2];
@@ -787,6 +1094,9 @@ fn written(numbers: &Numbers) -> Option<Vec<u8>> {
             .zip(widths)
             .for_each(|(number, width)| push_number(&mut out, *number, width));
     }
+    if has_decider {
+        out.extend_from_slice(&[0x05, 0, 1, numbers.decider as u8]);
+    }
     Some(out)
 }
 
@@ -795,6 +1105,9 @@ fn as_if_written(tally: &mut Tally, seed: &mut Seed) {
     let numbers = generate::numbers(seed);
     if let Some(bytes) = written(&numbers) {
         tally.check("as if written", judge_numbers(&numbers) == judge(&bytes));
+        let (whole, all) = (bytes_of_numbers(&numbers), numbers.ops.len() % 6 == 0);
+        tally.check("whole fields", bytes.starts_with(&whole));
+        tally.check("whole table", (bytes == whole) == all);
     }
 }
 
@@ -983,20 +1296,28 @@ fn little_stack(tally: &mut Tally) {
 }
 
 /// The checks that draw nothing.
-const FIXED: [fn(&mut Tally); 24] = [
+const FIXED: [fn(&mut Tally); 32] = [
     hexadecimal,
     bench_k1,
     bench_answers,
     margins,
-    sizes,
+    named,
     largest_example,
     untyped_turn,
     points_of_order,
     points_of_size,
     points_of_pairs,
     points_of_reach,
+    points_of_length,
     points_of_numbers,
     points_of_large_numbers,
+    points_of_decider_field,
+    points_behind_decider,
+    points_of_early,
+    points_after_early,
+    points_of_marks,
+    points_of_marked_numbers,
+    decider_in_runs,
     places_in_head,
     places_in_op,
     places_in_reply,

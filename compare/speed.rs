@@ -383,5 +383,6 @@ pub fn hard_table() -> Table {
         first: 1,
         follow,
         ops,
+        decider: None,
     }
 }

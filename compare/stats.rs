@@ -1,12 +1,13 @@
 //! How often the drawn inputs meet each refusal.
 
 use crate::answers;
+use crate::findings::NAMES;
 use crate::generate::{self, Seed};
-use crate::judge::{judge, write_table, Refusal};
+use crate::judge::{bytes_of_numbers, judge, write_table, Refusal};
 
 /// How often success (place 0) and each refusal (its number) was met.
 #[derive(Default)]
-struct Counts([u64; 10]);
+struct Counts([u64; NAMES.len()]);
 
 impl Counts {
     fn note<T>(&mut self, answer: &Result<T, Refusal>) {
@@ -61,7 +62,7 @@ fn stat_reply(seed: &mut Seed, stats: &mut Stats) {
 /// One table as numbers.
 fn stat_numbers(seed: &mut Seed, stats: &mut Stats) {
     let numbers = generate::numbers(seed);
-    let length = 18 + 4 * numbers.follow.len() + 21 * (numbers.ops.len() / 6);
+    let length = bytes_of_numbers(&numbers).len();
     let mut out = vec![0; generate::room(seed, length)];
     stats.numbers.note(&write_table(&numbers, &mut out));
 }
@@ -78,9 +79,9 @@ pub fn stats_command(count: u64, mut seed: Seed) -> bool {
             stats.whole.note(&judge(&generate::whole(&mut seed)));
         }
     }
-    println!(
-        "            good   SHORT   ORDER    SIZE   RANGE    MANY   CLASH    RACE    ROOM     ASK"
-    );
+    print!("{:<9}", "");
+    NAMES.iter().for_each(|name| print!("{:>8}", name));
+    println!();
     stats.plan.print("plan");
     stats.unfold.print("unfold");
     stats.numbers.print("numbers");

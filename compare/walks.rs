@@ -12,7 +12,7 @@ fn after_one_turn(table: &Table, set: u64) -> u64 {
 }
 
 /// The modes that some cycle of some run has: the first modes, and what follows.
-fn reached_modes(table: &Table) -> u64 {
+pub fn reached_modes(table: &Table) -> u64 {
     let mut reached = table.first;
     loop {
         let more = reached | after_one_turn(table, reached);

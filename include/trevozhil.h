@@ -17,6 +17,9 @@
  *               a cell that the other reads or writes
  *   8    ROOM   the output buffer is too short                           the bytes needed, 0
  *   9    ASK    a number asked for is outside its range                  the place of the first bad one, 0
+ *   10   EARLY  an operation that does not run in every mode starts      the decider, the lowest such operation, or
+ *               before the decider's end, or the decider itself does     the decider itself, which is tested first
+ *               not run in every mode
  *
  * Of RANGE, *b is the offset of the first byte of the first wrong number, in the order of the layout. An operation
  * that ends after the table, or lasts 0 ticks, blames its duration; a row of a reply that unfolds to a start above 999
@@ -27,6 +30,7 @@
  *   02                 8 boards, 9 cells, 10 modes
  *   03                 14 first modes, 18 + 4 * m followers of mode m
  *   04                 *a + 3 start, *a + 5 duration, *a + 7 boards, *a + 9 reads, *a + 13 writes, *a + 17 modes
+ *   05                 *a + 3 decider
  *   11 (a reply)       3 period
  *   12 (a reply)       *a + 3 folded start, *a + 5 start index
  *
@@ -57,9 +61,10 @@ extern "C" {
 #define TREVOZHIL_RACE 7
 #define TREVOZHIL_ROOM 8
 #define TREVOZHIL_ASK 9
+#define TREVOZHIL_EARLY 10
 
-/* The longest table has this many bytes. */
-#define TREVOZHIL_LONGEST_TABLE 818
+/* The longest table has this many bytes, of which the field of its decider has 4. No answer depends on more than 3 behind. */
+#define TREVOZHIL_LONGEST_TABLE 822
 
 /* The longest reply has this many bytes; a reply has 5 and 7 for each operation. */
 #define TREVOZHIL_LONGEST_REPLY 229
@@ -79,7 +84,8 @@ extern "C" {
 
 /*
  * Judges a table's bytes: the s_len bytes at s.
- * Answers 0 where the table is accepted, or a refusal from 1 to 7. Writes nothing but *a and *b.
+ * Answers 0 where the table is accepted, or a refusal from 1 to 7, or EARLY, which comes after RACE. Writes nothing but
+ * *a and *b.
  */
 uint32_t trevozhil_judge(const uint8_t *s, size_t s_len, uint64_t *a, uint64_t *b);
 
@@ -87,35 +93,37 @@ uint32_t trevozhil_judge(const uint8_t *s, size_t s_len, uint64_t *a, uint64_t *
  * Judges a table that is handed over as numbers, as if it was first written as bytes and then read: p is its length in
  * ticks; then the counts of boards, cells and modes; first, the set of first modes; follow, for each mode the set of
  * modes that may follow; ops, six numbers for each operation: start, duration, boards, reads, writes, modes. Bit m of a
- * set says whether m is a member.
- * Answers 0 where the table is accepted, or a refusal from 1 to 7. A count of follower words that is not the count of
- * modes is SIZE, a number that is too large for its field RANGE, and an operation with numbers missing SHORT; each
- * offset is the one that the field, or the number, would have in the bytes. Here a start can be blamed, too: one above
- * 65535. Writes nothing but *a and *b.
+ * set says whether m is a member. mark says whether there is a decider: with mark 0 there is none, and the number decider
+ * is ignored; with any other mark, decider is the number of the operation that decides the mode, counted from 0.
+ * Answers 0 where the table is accepted, or a refusal from 1 to 7, or EARLY. A count of follower words that is not the
+ * count of modes is SIZE, a number that is too large for its field RANGE, and an operation with numbers missing SHORT,
+ * whatever the mark; each offset is the one that the field, or the number, would have in the bytes. Here a start can be
+ * blamed, too: one above 65535. Writes nothing but *a and *b.
  */
 uint32_t trevozhil_judge_numbers(uint64_t p, uint64_t boards, uint64_t cells, uint64_t modes, uint64_t first,
                                  const uint64_t *follow, size_t follow_len, const uint64_t *ops, size_t ops_len,
-                                 uint64_t *a, uint64_t *b);
+                                 uint64_t mark, uint64_t decider, uint64_t *a, uint64_t *b);
 
 /*
- * Writes the bytes of a table that is handed over as numbers, as above, to out, which has room for out_len bytes.
- * Answers 0 where they are written, or a refusal from 1 to 8; ROOM comes last. Where it answers 0 the first *a bytes of
+ * Writes the bytes of a table that is handed over as numbers, as above, to out, which has room for out_len bytes. The
+ * decider's field is written exactly where mark is not 0.
+ * Answers 0 where they are written, or a refusal from 1 to 8, or EARLY; ROOM comes last. Where it answers 0 the first *a bytes of
  * out are the table's, and the others are as they were. Where it refuses, every byte of out is as it was.
  */
 uint32_t trevozhil_write(uint64_t p, uint64_t boards, uint64_t cells, uint64_t modes, uint64_t first,
-                         const uint64_t *follow, size_t follow_len, const uint64_t *ops, size_t ops_len, uint8_t *out,
-                         size_t out_len, uint64_t *a, uint64_t *b);
+                         const uint64_t *follow, size_t follow_len, const uint64_t *ops, size_t ops_len, uint64_t mark,
+                         uint64_t decider, uint8_t *out, size_t out_len, uint64_t *a, uint64_t *b);
 
 /*
  * The period of a table: the smallest at which the next cycle may start, for every run of modes.
- * Answers 0 with the period in *a, or a refusal from 1 to 7.
+ * Answers 0 with the period in *a, or a refusal from 1 to 7, or EARLY.
  */
 uint32_t trevozhil_period(const uint8_t *s, size_t s_len, uint64_t *a, uint64_t *b);
 
 /*
  * Whether the boards of a table fit at the period q: in no run of modes do two running steps hold one board at once.
- * Answers 0 with 1 (they fit) or 0 (they do not) in *a, or a refusal from 1 to 7, or ASK where q is not from 1 to the
- * table's length; ASK comes last.
+ * Answers 0 with 1 (they fit) or 0 (they do not) in *a, or a refusal from 1 to 7, or EARLY, or ASK where q is not from 1
+ * to the table's length; ASK comes last.
  * A period is right exactly when trevozhil_boards_fit and trevozhil_values_arrive both say yes.
  */
 uint32_t trevozhil_boards_fit(const uint8_t *s, size_t s_len, uint64_t q, uint64_t *a, uint64_t *b);
@@ -123,15 +131,15 @@ uint32_t trevozhil_boards_fit(const uint8_t *s, size_t s_len, uint64_t q, uint64
 /*
  * Whether the values of a table arrive at the period q: in every run of modes each step reads the value that it would
  * have read with no overlap.
- * Answers 0 with 1 (they arrive) or 0 (they do not) in *a, or a refusal from 1 to 7, or ASK where q is not from 1 to
- * the table's length; ASK comes last.
+ * Answers 0 with 1 (they arrive) or 0 (they do not) in *a, or a refusal from 1 to 7, or EARLY, or ASK where q is not
+ * from 1 to the table's length; ASK comes last.
  */
 uint32_t trevozhil_values_arrive(const uint8_t *s, size_t s_len, uint64_t q, uint64_t *a, uint64_t *b);
 
 /*
  * Folds a table onto its period, and writes the reply's bytes to out, which has room for out_len bytes: the period,
  * then for each operation in table order its folded start and its start index.
- * Answers 0 where they are written, or a refusal from 1 to 8; ROOM comes last. Where it answers 0 the first *a bytes of
+ * Answers 0 where they are written, or a refusal from 1 to 8, or EARLY; ROOM comes last. Where it answers 0 the first *a bytes of
  * out are the reply's, and the others are as they were. Where it refuses, every byte of out is as it was.
  */
 uint32_t trevozhil_plan(const uint8_t *s, size_t s_len, uint8_t *out, size_t out_len, uint64_t *a, uint64_t *b);
@@ -149,7 +157,7 @@ uint32_t trevozhil_unfold(const uint8_t *s, size_t s_len, uint8_t *out, size_t o
  * The margin of operations i and j of a table at distance n and period q: n * q - (the end of i - the start of j).
  * It is what is left from the end of i to the start of j n cycles later: negative where i ends after that, 0 where it
  * ends exactly then.
- * Answers 0 with the margin in *margin, and 0 in *a and *b; or a refusal from 1 to 7; or ASK where i or j is no
+ * Answers 0 with the margin in *margin, and 0 in *a and *b; or a refusal from 1 to 7, or EARLY; or ASK where i or j is no
  * operation of the table, n is not from 1 to 1000, or q is not from 1 to the table's length: the places 0 to 3 in this
  * order. ASK comes last. Where it refuses, *margin is as it was.
  */

@@ -54,11 +54,12 @@ fn starts_of_rows(reply: &[u8]) -> Vec<u8> {
 }
 
 /// The starts of an accepted table. Its operations come after the field of the turns, which is at
-/// 11; each has 21 bytes, of which the start is the first number.
+/// 11; each has 21 bytes, of which the start is the first number. The 4 bytes of a decider's field
+/// may come behind them.
 fn starts_in(table: &[u8]) -> Vec<u8> {
     let operations = &table[11 + 3 + number_at(table, 12) as usize..];
     operations
-        .chunks(21)
+        .chunks_exact(21)
         .flat_map(|operation| operation[3..5].to_vec())
         .collect()
 }

@@ -72,6 +72,13 @@ fn analyzers() {
     one(b"analyzer-rinse");
 }
 
+// tables with a decider
+fn deciders() {
+    one(b"k01-decides");
+    one(b"analyzer-decides");
+    one(b"analyzer-decides-early");
+}
+
 // tables with a number or set out of its range
 fn slips() {
     one(b"slip-board");
@@ -119,6 +126,7 @@ fn main() {
     unstarred();
     papers();
     analyzers();
+    deciders();
     slips();
     station();
     k1_into_few();

@@ -1,4 +1,4 @@
--- The code's answers are determined by document 01's numbers: no two refusals, verdicts or answers of the code say the same.
+-- The code's answers are determined by the documents' numbers: no two refusals, verdicts or answers of the code say the same.
 -- Assumes nothing.
 use Prim.Native.Nat.{ℕ, zero, suc}
 use mathlib.Core.Path.{_≡_, refl, sym, ap, _∙_}
@@ -7,14 +7,14 @@ use Rattle.rules.specs.Verdicts.{accepted, refused}
 use Rattle.rules.specs.Answers.{Written}
 use Rattle.theory.proofs.Verdicts.{never-refused}
 use Rattle.fields.specs.declared.Refusal.{Refusal}
-use Rattle.fields.specs.declared.Refusal.the-variants.{Short, Order, Size, Range, Many, Clash, Race, Room, Ask}
+use Rattle.fields.specs.declared.Refusal.the-variants.{Short, Order, Size, Range, Many, Clash, Race, Room, Ask, Early}
 use Rattle.fields.specs.declared.Verdict.{Verdict}
 use Rattle.fields.specs.declared.Verdict.the-variants.{Accepted, Refused}
 use Rattle.fields.specs.declared.Answer.{Answer}
 use Rattle.fields.specs.declared.Answer.the-variants.{Wrote, Denied}
 use Rattle.fields.specs.Verdicts.{refusalOf, tested, answered, leaving}
 
--- the refusal that has a number, a and b; none has the number 0, nor one above 9
+-- the refusal that has a number, a and b; none has the number 0, nor one above 10
 untold : ℕ → ℕ → ℕ → Refusal
 untold zero a b = Short a
 untold (suc zero) a b = Short a
@@ -26,7 +26,8 @@ untold (suc (suc (suc (suc (suc (suc zero)))))) a b = Clash a b
 untold (suc (suc (suc (suc (suc (suc (suc zero))))))) a b = Race a b
 untold (suc (suc (suc (suc (suc (suc (suc (suc zero)))))))) a b = Room a
 untold (suc (suc (suc (suc (suc (suc (suc (suc (suc zero))))))))) a b = Ask a
-untold (suc (suc (suc (suc (suc (suc (suc (suc (suc (suc n)))))))))) a b = Short a
+untold (suc (suc (suc (suc (suc (suc (suc (suc (suc (suc zero)))))))))) a b = Early a b
+untold (suc (suc (suc (suc (suc (suc (suc (suc (suc (suc (suc n))))))))))) a b = Short a
 
 refusal-back : {A : Type 0} (r : Refusal)
     → (n : ℕ) × (a : ℕ) × (b : ℕ) × (refusalOf {A = A} r ≡ refused n a b) × (untold n a b ≡ r)
@@ -40,6 +41,7 @@ refusal-back (Clash i j) = (_, _, _, refl, refl)
 refusal-back (Race i j) = (_, _, _, refl, refl)
 refusal-back (Room a) = (_, _, _, refl, refl)
 refusal-back (Ask a) = (_, _, _, refl, refl)
+refusal-back (Early d i) = (_, _, _, refl, refl)
 
 -- what is accepted is no refusal
 pub no-refusal : {A X : Type 0} {x : A} (r : Refusal) → accepted x ≡ refusalOf r → X

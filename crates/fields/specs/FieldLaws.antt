@@ -2,7 +2,7 @@
 -- Assumes nothing.
 use Prim.Native.Nat.{ℕ, zero, suc, _+_, _-_, _<_, _≤_}
 use mathlib.Core.Path.{_≡_, refl, sym, ap, _∙_}
-use mathlib.Core.Bool.{true, false, not}
+use mathlib.Core.Bool.{Bool, true, false, not}
 use mathlib.Core.List.{List, []}
 use native.Mathlib.Omega.{arith}
 use lib.Dec.{eqb}
@@ -189,20 +189,20 @@ module _ (tag size : ℕ) {A : Type 0} (wrong : A → ℕ) (value : List ℕ →
       repeat-passed s at tag size left
       (then-first (repeatOf s at left tag size) _ (sym (repeat-split s at tag size (wrong (value s at)) left) ∙ e) .1)
 
-  -- the field at a place inside the input, and those behind it
-  pub from-next : (left at : ℕ) → at < length s
-      → fieldsFrom tag size wrong value s left at
+  -- the field at a place where they do not end, and those behind it
+  pub from-next : (ends : List ℕ → ℕ → Bool) (left at : ℕ) → ends s at ≡ false
+      → fieldsFrom ends tag size wrong value s left at
       ≡ onwards (repeatTest s at left tag size (wrong (value s at)) then accepted (value s at))
-      (λ x. more x (fieldsFrom tag size wrong value s (left - 1) (at + (3 + size))))
-  from-next zero at h =
-      fields-end tag size wrong value s at
-      ∙ rw (lt-leb (length s) at h)
+      (λ x. more x (fieldsFrom ends tag size wrong value s (left - 1) (at + (3 + size))))
+  from-next ends zero at h =
+      fields-end ends tag size wrong value s at
+      ∙ rw h
       (test-onwards (repeatTest s at 0 tag size (wrong (value s at))) (accepted []) (value s at) _ (λ e. absurd (repeat-whole 0 at e .1 refl)))
-  from-next (suc left) at h =
+  from-next ends (suc left) at h =
       let p : at + 3 + size ≡ at + (3 + size) = omega arith in
       let l : suc left - 1 ≡ left = omega arith in
-      fields-next tag size wrong value s left at
-      ∙ rw (lt-leb (length s) at h)
+      fields-next ends tag size wrong value s left at
+      ∙ rw h
       (test-onwards (repeatTest s at (suc left) tag size (wrong (value s at))) _ (value s at)
-      (λ x. more x (fieldsFrom tag size wrong value s (suc left - 1) (at + (3 + size))))
+      (λ x. more x (fieldsFrom ends tag size wrong value s (suc left - 1) (at + (3 + size))))
       (λ e. rw (l, p)))

@@ -5,7 +5,7 @@ use mathlib.Core.Path.{_≡_, refl, sym, ap, _∙_}
 use Rattle.rules.specs.Verdicts.{Verdict, accepted, refused, Test, _then_, onwards}
 use Rattle.theory.proofs.Verdicts.{never-refused, then-refuses, onwards-refuses}
 use Rattle.fields.specs.declared.Refusal.{Refusal}
-use Rattle.fields.specs.declared.Refusal.the-variants.{Short, Order, Size, Range, Many, Clash, Race, Room, Ask}
+use Rattle.fields.specs.declared.Refusal.the-variants.{Short, Order, Size, Range, Many, Clash, Race, Room, Ask, Early}
 use Rattle.fields.specs.declared.Verdict as code
 use Rattle.fields.specs.declared.Verdict.the-variants.{Accepted, Refused}
 use Rattle.fields.specs.Verdicts.{refusalOf, tested}
@@ -22,6 +22,7 @@ refusal-is (Clash i j) = (_, _, _, refl, refl)
 refusal-is (Race i j) = (_, _, _, refl, refl)
 refusal-is (Room n) = (_, _, _, refl, refl)
 refusal-is (Ask place) = (_, _, _, refl, refl)
+refusal-is (Early d i) = (_, _, _, refl, refl)
 
 module _ {A B : Type 0} {v : Verdict A} (r : Refusal) where
   -- it stays one whatever comes behind it

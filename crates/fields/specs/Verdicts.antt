@@ -1,12 +1,12 @@
--- The code's verdicts in document 01's numbers.
+-- The code's verdicts in the documents' numbers.
 -- Assumes nothing.
 use Prim.Native.Nat.{ℕ}
 use mathlib.Core.List.{List}
-use Rattle.rules.specs.Verdicts.{accepted, refused, SHORT, ORDER, SIZE, RANGE, MANY, CLASH, RACE, ROOM, ASK}
+use Rattle.rules.specs.Verdicts.{accepted, refused, SHORT, ORDER, SIZE, RANGE, MANY, CLASH, RACE, ROOM, ASK, EARLY}
 use Rattle.rules.specs.Verdicts as rules
 use Rattle.rules.specs.Answers.{Written}
 use Rattle.fields.specs.declared.Refusal.{Refusal}
-use Rattle.fields.specs.declared.Refusal.the-variants.{Short, Order, Size, Range, Many, Clash, Race, Room, Ask}
+use Rattle.fields.specs.declared.Refusal.the-variants.{Short, Order, Size, Range, Many, Clash, Race, Room, Ask, Early}
 use Rattle.fields.specs.declared.Answer.{Answer}
 use Rattle.fields.specs.declared.Answer.the-variants.{Wrote, Denied}
 use Rattle.fields.specs.declared.Verdict.{Verdict}
@@ -23,6 +23,7 @@ refusalOf (Clash i j) = refused CLASH i j
 refusalOf (Race i j) = refused RACE i j
 refusalOf (Room n) = refused ROOM n 0
 refusalOf (Ask place) = refused ASK place 0
+refusalOf (Early d i) = refused EARLY d i
 
 -- a verdict of the code on x
 abbrev pub verdictOn : {A : Type 0} → Verdict → A → rules.Verdict A

@@ -7,7 +7,7 @@ ghost use Rattle.rules.specs.Judge.{ranged};
 ghost use Rattle.fields.specs.Verdicts.{tested};
 ghost use Rattle.fields.specs.Fields.{sizedOf, fieldOf, repeatOf};
 
-// A refusal: document 01's name, and its a and b where they are not 0.
+// A refusal: its name in the documents, and its a and b where they are not always 0.
 pub enum Refusal {
     Short(usize),
     Order(usize),
@@ -18,6 +18,7 @@ pub enum Refusal {
     Race(usize, usize),
     Room(usize),
     Ask(usize),
+    Early(usize, usize),
 }
 
 pub enum Verdict {

@@ -37,5 +37,6 @@ pub fn figures_of(r: Refusal) -> Figures
         Refusal::Race(i, j) => numbered(7, i, j),
         Refusal::Room(n) => numbered(8, n, 0),
         Refusal::Ask(place) => numbered(9, place, 0),
+        Refusal::Early(d, i) => numbered(10, d, i),
     }
 }

@@ -6,9 +6,10 @@ ghost use lib.ListN.{length};
 ghost use Rattle.rules.specs.Judge.{numbersTest, setsWrong, judgeNumbers};
 ghost use Rattle.fields.specs.Verdicts.{tested};
 ghost use Rattle.table.specs.Tables.{JudgedAs, padded, tableIn};
-ghost use Rattle.handed.specs.Handed.{numbers, head, numbersVerdict, SmallWords, Small};
+ghost use Rattle.handed.specs.Handed.{numbers, unmarked, head, numbersVerdict, SmallWords, Small};
 use fields::Refusal;
 use fields::Verdict;
+use table::Decider;
 use table::Judged;
 use table::Table;
 
@@ -42,7 +43,7 @@ fn head_test(
     follow: &[u64],
     ops: &[u64],
 ) -> Verdict
-    ensures { λ r. ⌜ tested r ≡ numbersTest (numbers p boards cells modes first (now (follow .entry)) (now (ops .entry))) ⌝ }
+    ensures { λ r. ⌜ tested r ≡ numbersTest (unmarked p boards cells modes first (now (follow .entry)) (now (ops .entry))) ⌝ }
 {
     let len = ranges::len_wrong(p);
     if len != 0 {
@@ -96,10 +97,11 @@ fn head_of(p: u64, boards: u64, cells: u64, modes: u64, first: u64, follow: &[u6
         follow: words,
         ops,
         count: 0,
+        decider: Decider::Nobody,
     }
 }
 
-// The judgement up to CLASH and RACE.
+// The judgement up to the operations.
 fn judge_fields(
     p: u64,
     boards: u64,
@@ -109,7 +111,7 @@ fn judge_fields(
     follow: &[u64],
     ops: &[u64],
 ) -> Judged
-    ensures { λ r. ⌜ JudgedAs (numbersVerdict (numbers p boards cells modes first (now (follow .entry)) (now (ops .entry)))) r ⌝ }
+    ensures { λ r. ⌜ JudgedAs (numbersVerdict (unmarked p boards cells modes first (now (follow .entry)) (now (ops .entry)))) r ⌝ }
 {
     let v = head_test(p, boards, cells, modes, first, follow, ops);
     match v {
@@ -130,8 +132,11 @@ pub fn judge(
     first: u64,
     follow: &[u64],
     ops: &[u64],
+    mark: u64,
+    decider: u64,
 ) -> Judged
-    ensures { λ r. ⌜ JudgedAs (judgeNumbers (numbers p boards cells modes first (now (follow .entry)) (now (ops .entry)))) r ⌝ }
+    ensures { λ r. ⌜ JudgedAs (judgeNumbers (numbers p boards cells modes first (now (follow .entry)) (now (ops .entry)) mark decider)) r ⌝ }
 {
-    whole::judge(judge_fields(p, boards, cells, modes, first, follow, ops))
+    let fields = judge_fields(p, boards, cells, modes, first, follow, ops);
+    whole::judge(deciders::hand(fields, mark, decider))
 }

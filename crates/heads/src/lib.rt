@@ -10,6 +10,7 @@ ghost use Rattle.table.specs.Tables.{tableIn, padded};
 ghost use Rattle.heads.specs.Heads.{lenTest, countsTest, modesTest};
 use fields::Refusal;
 use fields::Verdict;
+use table::Decider;
 use table::Table;
 
 // A first field that holds a length from 1 to 1000: field 01 of a table, and field 11 of a reply.
@@ -132,5 +133,6 @@ pub fn read_head(s: &[u8]) -> Table
         follow,
         ops,
         count: 0,
+        decider: Decider::Nobody,
     }
 }

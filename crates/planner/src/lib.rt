@@ -100,7 +100,7 @@ pub fn period_of(s: &[u8]) -> Found
     questions::period_of(s)
 }
 
-// The bytes of a table that is handed over as numbers. On a refusal every byte of the buffer stays.
+// The bytes of a table that is handed over as numbers; the decider counts where its mark is not 0. On a refusal every byte of the buffer stays.
 pub fn write_table(
     p: u64,
     boards: u64,
@@ -109,9 +109,22 @@ pub fn write_table(
     first: u64,
     follow: &[u64],
     ops: &[u64],
+    mark: u64,
+    decider: u64,
     out: &mut [u8],
 ) -> Answer
-    ensures { λ r. ⌜ IsWrite (numbers p boards cells modes first (now (follow .entry)) (now (ops .entry))) (now (out .entry)) (leaving (answered r) (now (out .exit))) ⌝ }
+    ensures { λ r. ⌜ IsWrite (numbers p boards cells modes first (now (follow .entry)) (now (ops .entry)) mark decider) (now (out .entry)) (leaving (answered r) (now (out .exit))) ⌝ }
 {
-    writing::write(p, boards, cells, modes, first, follow, ops, out)
+    writing::write(
+        p,
+        boards,
+        cells,
+        modes,
+        first,
+        follow,
+        ops,
+        mark,
+        decider,
+        out,
+    )
 }

@@ -3,7 +3,7 @@
 use Prim.Native.Nat.{ℕ, _^_}
 use mathlib.Core.List.{[], _∷_}
 use lib.Dec.{ltb}
-use Rattle.rules.specs.Table.{Op, Table}
+use Rattle.rules.specs.Table.{Op, nobody, Table}
 use Rattle.rules.specs.Judge.{number, wrongFrom, setOk}
 use Rattle.ranges.specs.declared.Wide.{Wide}
 
@@ -22,7 +22,7 @@ wideOf o =
 -- a table of this length and these counts, and nothing else
 abbrev pub counted : ℕ → ℕ → ℕ → ℕ → Table
 counted len boards cells modes =
-    record { len = len; boards = boards; cells = cells; modes = modes; first = 0; follow = []; ops = [] }
+    record { len = len; boards = boards; cells = cells; modes = modes; first = 0; follow = []; ops = []; decider = nobody }
 
 -- of an operation whose dates are in range: which of its sets is wrong first
 unfoldable pub setsOf : Table → Op → ℕ

@@ -1,17 +1,25 @@
--- The verdict on a table's bytes without CLASH and RACE, and on one operation's field.
+-- The verdict on a table's bytes up to its operations, and on one operation's field; and with the decider's field.
 -- Assumes nothing.
 use Prim.Native.Nat.{ℕ, _-_}
+use mathlib.Core.Bool.{Bool, _&&_, _||_}
 use mathlib.Core.List.{List}
+use lib.Dec.{leb, ltb, eqb}
+use lib.ListN.{length}
 use Rattle.rules.specs.Table.{Op, Table}
 use Rattle.rules.specs.Verdicts.{Verdict, accepted, _then_, onwards}
-use Rattle.rules.specs.Bytes.{opAt}
+use Rattle.rules.specs.Bytes.{num8, opAt}
 use Rattle.rules.specs.Judge.{repeatTest, opWrong, headOf, withOps, opsPlace, headTest, opsFrom}
 use Rattle.fields.specs.Verdicts.{refusalOf}
 use Rattle.table.specs.Tables.{opOf}
 use Rattle.table.specs.declared.Table as code
 use Rattle.ranges.specs.Ranges.{counted}
+use Rattle.deciders.specs.Deciders.{behindOf}
 use Rattle.reading.specs.declared.Next.{Next}
 use Rattle.reading.specs.declared.Next.the-variants.{Here, Bad}
+
+-- the operations end at a place, when the first of them is due at another
+abbrev pub doneAt : ℕ → List ℕ → ℕ → Bool
+doneAt first s at = leb (length s) at || (ltb first at && eqb (num8 s at) 5)
 
 -- one operation's field, when `left` more may come, with the operation
 unfoldable pub opVerdict : Table → List ℕ → ℕ → ℕ → Verdict Op
@@ -30,6 +38,10 @@ nextOf (Bad r) = refusalOf r
 unfoldable pub opsVerdict : List ℕ → Verdict Table
 opsVerdict s = onwards (opsFrom (headOf s) s 32 (opsPlace (headOf s .modes))) (λ os. accepted (withOps (headOf s) os))
 
--- the whole input: `judge` with the table accepted where `judge` asks for CLASH and RACE
+-- the fields up to the operations: `judge` with the table accepted where `judge` asks for what comes behind
 unfoldable pub fieldsVerdict : List ℕ → Verdict Table
 fieldsVerdict s = headTest s then opsVerdict s
+
+-- all fields: `judge` with the table accepted where `judge` asks for CLASH, RACE and EARLY
+unfoldable pub wholeVerdict : List ℕ → Verdict Table
+wholeVerdict s = onwards (fieldsVerdict s) (behindOf s)

@@ -2,15 +2,20 @@
 -- Assumes nothing.
 use Prim.Native.Nat.{ℕ, _+_, _-_, _*_, _<_, _≤_}
 use mathlib.Core.Path.{_≡_, refl, sym, ap, _∙_}
+use mathlib.Core.Bool.{Bool, true, false}
 use mathlib.Core.List.{List, [], _∷_, _++_, append-assoc, append-nil}
 use native.Mathlib.Omega.{arith}
+use lib.Dec.{leb}
 use lib.ListN.{length, length-append}
+use borrow.Author.Tests.{leb-true, leb-false}
 use Rattle.rules.specs.Table as rules
 use Rattle.rules.specs.Verdicts.{Verdict, accepted, refused, RANGE, _then_, onwards, more}
 use Rattle.rules.specs.Bytes.{num8, opAt}
-use Rattle.rules.specs.Judge.{ranged, opWrong, headOf, withOps, opsPlace, opsFrom}
+use Rattle.rules.specs.Judge.{ranged, opWrong, headOf, withOps, opsPlace, opsDone, opsFrom}
 use Rattle.theory.proofs.Verdicts.{then-accepts, then-refuses, then-first, onwards-accepts}
 use Rattle.theory.proofs.Ranges.{ranged-yes, ranged-no}
+use Rattle.theory.proofs.Says.{Known, holds, fails, known, clash-bool}
+use Rattle.theory.proofs.Judging.{done-end}
 use Rattle.theory.proofs.Bytes.{no-field}
 use Rattle.fields.specs.declared.Refusal.{Refusal}
 use Rattle.fields.specs.declared.Verdict.the-variants.{Accepted}
@@ -23,7 +28,7 @@ use Rattle.table.specs.declared.Table.{Table}
 use Rattle.table.specs.Tables.{opOf, tableIn, withOp, JudgedAs}
 use Rattle.table.specs.TableLaws.{with-op-in}
 use Rattle.table.specs.JudgedLaws.{granted}
-use Rattle.reading.specs.Reading.{opVerdict, nextVerdict, opsVerdict}
+use Rattle.reading.specs.Reading.{doneAt, opVerdict, nextVerdict, opsVerdict}
 use Rattle.heads.specs.HeadLaws.{HeadFits}
 
 -- ---- one operation
@@ -69,15 +74,15 @@ module _ {A : Type 0} where
   mores-more xs x (refused n a b) = refl
 
 module _ (T : rules.Table) (s : List ℕ) where
-  ops-end : (left at : ℕ) → length s ≤ at → opsFrom T s left at ≡ accepted []
+  ops-end : (left at : ℕ) → opsDone T s at ≡ true → opsFrom T s left at ≡ accepted []
   unfolding opsFrom
-  ops-end left at = no-field 4 18 (opWrong T) opAt s at left
+  ops-end left at = no-field (opsDone T) 4 18 (opWrong T) opAt s at left
 
-  -- the operation at a place inside the input, and those behind it
-  ops-next : (left at : ℕ) → at < length s
+  -- the operation at a place where they do not end, and those behind it
+  ops-next : (left at : ℕ) → opsDone T s at ≡ false
       → opsFrom T s left at ≡ onwards (opVerdict T s left at) (λ o. more o (opsFrom T s (left - 1) (at + 21)))
   unfolding opsFrom opVerdict
-  ops-next = from-next 4 18 (opWrong T) opAt s
+  ops-next = from-next 4 18 (opWrong T) opAt s (opsDone T)
 
 -- where the reading of the operations stands: these are read, the table holds them, and the rest comes from a place on
 pub record SoFar (s : List ℕ) (t : Table) (at : ℕ) : Type 0 where
@@ -98,11 +103,28 @@ module _ (s : List ℕ) (t : Table) (e : t ≡ tableIn (headOf s)) where
   unfolding headOf
   head-modes = ap (λ (u : Table). u .modes) e
 
+  pub first-place : opsPlace (t .modes) ≡ opsPlace (headOf s .modes)
+  unfolding headOf
+  first-place = ap opsPlace head-modes
+
   pub so-none : SoFar s t (opsPlace (t .modes))
   unfolding headOf
   so-none =
       let place = ap (λ (n : ℕ). opsFrom (headOf s) s 32 (18 + 4 * n)) head-modes in
       record { ops = []; few = omega arith; held = e; rest = sym (mores-none _ ∙ place) }
+
+-- where they end, by the place of the first
+pub done-is : (s : List ℕ) (first at : ℕ) {r : Bool} → first ≡ opsPlace (headOf s .modes) → r ≡ doneAt first s at → opsDone (headOf s) s at ≡ r
+unfolding opsDone
+done-is s first at place e = sym (e ∙ ap (λ (p : ℕ). doneAt p s at) place)
+
+-- it is not at the end of the input
+pub done-inside : (s : List ℕ) (at : ℕ) → opsDone (headOf s) s at ≡ false → at < length s
+done-inside s at e = go (known (leb (length s) at))
+  where
+    go : Known (leb (length s) at) → at < length s
+    go (holds b) = clash-bool (done-end (headOf s) s at (leb-true (length s) at b)) e
+    go (fails b) = leb-false (length s) at b
 
 module _ {s : List ℕ} {t : Table} {at : ℕ} (so : SoFar s t at) where
   -- the counts of the table are those of the head
@@ -121,14 +143,14 @@ module _ {s : List ℕ} {t : Table} {at : ℕ} (so : SoFar s t at) where
   so-same = ap (λ (u : Table). nextVerdict u s at) (so .held)
 
   -- a field that is refused
-  pub so-bad : (r : Refusal) → at < length s → refusalOf r ≡ nextVerdict t s at → opsVerdict s ≡ refusalOf r
+  pub so-bad : (r : Refusal) → opsDone (headOf s) s at ≡ false → refusalOf r ≡ nextVerdict t s at → opsVerdict s ≡ refusalOf r
   unfolding opsVerdict mores
   so-bad r h e =
       let next = ops-next (headOf s) s (32 - length (so .ops)) at h ∙ onwards-refusal r _ (sym (e ∙ so-same)) in
       onwards-refusal r _ (so .rest ∙ onwards-refusal r _ next)
 
   -- one more operation
-  pub so-more : (o : Op) → at < length s → accepted (opOf o) ≡ nextVerdict t s at
+  pub so-more : (o : Op) → opsDone (headOf s) s at ≡ false → accepted (opOf o) ≡ nextVerdict t s at
       → More s t at o
   unfolding opVerdict
   so-more o h e =
@@ -155,8 +177,8 @@ module _ {s : List ℕ} {t : Table} {at : ℕ} (so : SoFar s t at) where
         };
       }
 
-  -- the end of the input
-  pub so-end : length s ≤ at → JudgedAs (opsVerdict s) (record { verdict = Accepted; table = t })
+  -- where they end
+  pub so-end : opsDone (headOf s) s at ≡ true → JudgedAs (opsVerdict s) (record { verdict = Accepted; table = t })
   unfolding opsVerdict mores
   so-end h =
       let os = so .ops in

@@ -1,4 +1,4 @@
-// A table's bytes, read field by field in document 01's order, and then judged for CLASH and RACE.
+// A table's bytes, read field by field in document 01's order, with the decider's field behind them, and then judged as a whole.
 ghost use mathlib.Core.Path.{_≡_};
 ghost use Prim.Native.Nat.{_+_, _<_, _≤_};
 ghost use lib.ListN.{length};
@@ -7,7 +7,7 @@ ghost use Rattle.rules.specs.Bytes.{opAt};
 ghost use Rattle.rules.specs.Judge.{headTest, judge};
 ghost use Rattle.table.specs.Tables.{JudgedAs};
 ghost use Rattle.ranges.specs.Ranges.{wideOf, counted};
-ghost use Rattle.reading.specs.Reading.{nextOf, opVerdict, opsVerdict, fieldsVerdict};
+ghost use Rattle.reading.specs.Reading.{doneAt, nextOf, opVerdict, opsVerdict, fieldsVerdict};
 use fields::Refusal;
 use fields::Verdict;
 use ranges::Wide;
@@ -55,14 +55,28 @@ fn next_op(s: &[u8], at: usize, left: usize, len: u32, boards: u32, cells: u32, 
     Next::Here(ranges::narrow(len, boards, cells, modes, w))
 }
 
-// The operations up to the end of the input, behind a head that is judged. Each is stored where it belongs: the table is not copied for it.
+// Whether they end at a place: with the input, or at a field 05 behind the first of them.
+fn ops_done(s: &[u8], at: usize, first: usize) -> bool
+    ensures { λ r. ⌜ r ≡ doneAt first (now (s .entry)) at ⌝ }
+{
+    if s.len() <= at {
+        return true;
+    }
+    if at <= first {
+        return false;
+    }
+    s[at] == 5
+}
+
+// The operations up to where they end, behind a head that is judged. Each is stored where it belongs: the table is not copied for it.
 fn read_ops(s: &[u8]) -> Judged
     requires { ⌜ headTest (now s) ≡ accepted tt ⌝ }
     ensures { λ r. ⌜ JudgedAs (opsVerdict (now (s .entry))) r ⌝ }
 {
     let mut t = heads::read_head(s);
-    let mut at = table::ops_place(t.modes);
-    while at < s.len() {
+    let first = table::ops_place(t.modes);
+    let mut at = first;
+    while !ops_done(s, at, first) {
         let k = t.count;
         let next = next_op(s, at, 32 - k, t.len, t.boards, t.cells, t.modes);
         match next {
@@ -84,7 +98,7 @@ fn read_ops(s: &[u8]) -> Judged
 
 // ---- the whole input
 
-// The table that the bytes hold, if every field passes; CLASH and RACE are not judged.
+// The table that the bytes hold up to its operations, if every field passes.
 fn read_fields(s: &[u8]) -> Judged
     ensures { λ r. ⌜ JudgedAs (fieldsVerdict (now (s .entry))) r ⌝ }
 {
@@ -99,5 +113,5 @@ fn read_fields(s: &[u8]) -> Judged
 pub fn read(s: &[u8]) -> Judged
     ensures { λ r. ⌜ JudgedAs (judge (now (s .entry))) r ⌝ }
 {
-    whole::judge(read_fields(s))
+    whole::judge(deciders::read(s, read_fields(s)))
 }

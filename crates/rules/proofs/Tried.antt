@@ -1,11 +1,11 @@
 -- The definitions tried on the bench tables, before anything is proved over them: each fact follows from the definitions alone, by an explicit
 -- run or by computing. The must-fail edits of this crate are refused here.
 -- Assumes nothing.
-use Prim.Native.Nat.{ℕ, zero, suc, _/_, _%_, _^_, _<_, _≤_}
+use Prim.Native.Nat.{ℕ, zero, suc, _+_, _/_, _%_, _^_, _<_, _≤_}
 use mathlib.Core.Path.{_≡_, refl, subst}
 use mathlib.Core.Bool.{true, false, false≢true}
 use mathlib.Core.List.{List, [], _∷_, _++_, map}
-use mathlib.Core.Logic.{inl, inr}
+use mathlib.Core.Logic.{_⊎_, inl, inr}
 use native.Mathlib.Decide.{decLt}
 use native.Mathlib.Nat.{div-eq-of-lt}
 use native.Mathlib.Omega.{arith}
@@ -14,17 +14,17 @@ use lib.Pow.{pow-mono}
 use lib.ListN.{length, getD, take, replicate}
 use borrow.Author.Tests.{eqb-true}
 use Rattle.rules.specs.Sets.{has, In, Share, Within, Overlap}
-use Rattle.rules.specs.Table.{Op, Table, noOp, op, followers, Clash, Contest, Race, Accepted}
+use Rattle.rules.specs.Table.{Op, nobody, decides, Table, noOp, op, followers, Clash, Contest, Race, Always, DecidedBy, Decided, Accepted}
 use Rattle.rules.specs.Runs.{mode, IsRun, Runs, plainStart, plainEnd, Source, BoardsRightAt, ValuesRightAt, Right, spaced, IsPeriod}
 use Rattle.rules.specs.Better.{OpBetter, Better}
 use Rattle.rules.specs.Rows.{ticks, replyOf, startsOf, margin}
 use Rattle.rules.specs.Verdicts.{Verdict, accepted, refused, Test, _then_}
-use Rattle.rules.specs.Bytes.{tableBytes, longestTable, joined, replyBytes, startsBytes}
-use Rattle.rules.specs.Judge.{opsFrom, judge, opsOfNumbers, judgeNumbers, judgeReply}
+use Rattle.rules.specs.Bytes.{tableBytes, longestTable, farthest, joined, replyBytes, startsBytes}
+use Rattle.rules.specs.Judge.{opsFrom, withDecider, judge, opsOfNumbers, judgeNumbers, judgeReply}
 use Rattle.rules.specs.Text.{replyText, textOf, yesNoLine, marginLine, startsText}
 use Rattle.rules.specs.Words.{foldAsked, boardsAsked, valuesAsked, marginAsked, unfoldAsked, nothingAsked, questionOf, askable}
 use Rattle.rules.specs.Answers.{put, written, Answers, bytesOf, IsText, IsUnfold, marginTest, asked, BoardsFit, ValuesArrive, printed, IsPrinted, IsSaid}
-use Rattle.rules.specs.Bench.{opn, oneMode, k1, k1-bytes, k2, k3, k4, k5, k6, k7, k8, k9, k10, k10-touching, row}
+use Rattle.rules.specs.Bench.{opn, oneMode, k1, k1-bytes, k2, k3, k4, k5, k6, k7, k8, k9, k10, k10-touching, row, eachTurn, coldWarm, analyzer, sampled, hasty, hasty-first, half, unreached-half, unreached-hasty, racing, clashing}
 
 -- ---- members of small sets
 
@@ -242,7 +242,7 @@ k9-period = (
 -- ---- better knowledge: a table with two modes and one operation, by its first modes, followers, boards and duration
 abbrev known : ℕ → List ℕ → ℕ → ℕ → Table
 known first follow boards dur =
-    record { len = 4; boards = 2; cells = 1; modes = 2; first = first; follow = follow; ops = opn 0 dur boards 1 1 3 ∷ [] }
+    record { len = 4; boards = 2; cells = 1; modes = 2; first = first; follow = follow; ops = opn 0 dur boards 1 1 3 ∷ []; decider = nobody }
 
 -- a set below 4 is within another where its members 0 and 1 are
 two-within : (s t : ℕ) → s < 4 → (In 0 s → In 0 t) → (In 1 s → In 1 t) → Within s t
@@ -258,7 +258,7 @@ k5-turns (suc zero) = two-within 1 3 (omega arith) (λ _. refl) (λ _. refl)
 k5-turns (suc (suc a)) = λ m h. h
 
 k5-better : Better k6 k5
-k5-better = record { len = refl; count = refl; each = same; firsts = λ m h. h; turns = k5-turns }
+k5-better = record { len = refl; count = refl; each = same; firsts = λ m h. h; turns = k5-turns; decider = refl }
   where
     same : (i : ℕ) → i < 2 → OpBetter (op k6 i) (op k5 i)
     same i h = record { start = refl; reads = refl; writes = refl; modes = refl; dur = omega arith; boards = λ m x. x }
@@ -266,7 +266,7 @@ k5-better = record { len = refl; count = refl; each = same; firsts = λ m h. h; 
 -- a shorter duration, a board less, a first mode less, a turn less in each mode
 all-better : Better (known 3 (3 ∷ 3 ∷ []) 3 4) (known 1 (2 ∷ 1 ∷ []) 2 3)
 unfolding has
-all-better = record { len = refl; count = refl; each = op-better; firsts = two-within 1 3 (omega arith) (λ _. refl) (λ _. refl); turns = k5-turns }
+all-better = record { len = refl; count = refl; each = op-better; firsts = two-within 1 3 (omega arith) (λ _. refl) (λ _. refl); turns = k5-turns; decider = refl }
   where
     op-better : (i : ℕ) → i < 1 → OpBetter (op (known 3 (3 ∷ 3 ∷ []) 3 4) i) (op (known 1 (2 ∷ 1 ∷ []) 2 3) i)
     op-better zero h =
@@ -295,6 +295,74 @@ first-not x = false≢true (x .firsts 1 refl)
 turn-not : Better (known 1 (2 ∷ 1 ∷ []) 1 3) (known 1 (3 ∷ 1 ∷ []) 1 3) → ⊥
 unfolding has
 turn-not x = false≢true (x .turns 0 0 refl)
+
+-- not the same decider: another, none, one where there was none
+decider-not : Better analyzer (withDecider analyzer (decides 1)) ⊎ (Better analyzer (withDecider analyzer nobody) ⊎ Better (withDecider analyzer nobody) analyzer) → ⊥
+decider-not (inl x) = let e = x .decider in let z : _≡_ {A = ℕ} 1 0 = cc in omega arith
+decider-not (inr (inl x)) = let e = x .decider in let z : _≡_ {A = ℕ} 1 0 = cc in omega arith
+decider-not (inr (inr x)) = let e = x .decider in let z : _≡_ {A = ℕ} 1 0 = cc in omega arith
+
+-- ---- who decides: document 02, No. 4
+
+-- not so decided: a step that starts a tick too early; a decider that does not run in the warm, or in one that no run reaches; a step that
+-- runs in every mode but that one; a number that is no operation
+hasty-not : DecidedBy hasty 0 → ⊥
+unfolding has
+hasty-not x = let h = x .later 1 (omega arith) (λ all. false≢true (all 1 (omega arith))) in omega arith
+
+half-not : DecidedBy half 1 → ⊥
+unfolding has
+half-not x = false≢true (x .always 1 (omega arith))
+
+unreached-not : DecidedBy unreached-half 0 → ⊥
+unfolding has
+unreached-not x = false≢true (x .always 1 (omega arith))
+
+unreached-hasty-not : DecidedBy unreached-hasty 0 → ⊥
+unfolding has
+unreached-hasty-not x = let h = x .later 1 (omega arith) (λ all. false≢true (all 1 (omega arith))) in omega arith
+
+no-op-not : Decided analyzer (decides 3) → ⊥
+no-op-not x = omega (arith, x .isOp)
+
+-- so that table is not accepted
+hasty-refused : Accepted hasty → ⊥
+hasty-refused x = hasty-not (x .decided)
+
+-- "in every mode", of two
+both-modes : (T : Table) (o : Op) → T .modes ≡ 2 → o .modes ≡ 3 → Always T o
+unfolding has
+both-modes T o e f zero h = rw f
+both-modes T o e f (suc zero) h = rw f
+both-modes T o e f (suc (suc m)) h = absurd (omega arith)
+
+-- so decided: steps that start at the decider's end; and one that runs in every mode and starts before
+analyzer-decided : DecidedBy analyzer 0
+analyzer-decided = record { isOp = omega arith; always = both-modes analyzer (op analyzer 0) refl refl; later = go }
+  where
+    go : (i : ℕ) → i < 3 → (Always analyzer (op analyzer i) → ⊥) → 2 ≤ op analyzer i .start
+    go zero h n = absurd (n (both-modes analyzer (op analyzer 0) refl refl))
+    go (suc zero) h n = omega arith
+    go (suc (suc zero)) h n = omega arith
+    go (suc (suc (suc i))) h n = absurd (omega arith)
+
+sampled-decided : DecidedBy sampled 1
+sampled-decided = record { isOp = omega arith; always = both-modes sampled (op sampled 1) refl refl; later = go }
+  where
+    go : (i : ℕ) → i < 3 → (Always sampled (op sampled i) → ⊥) → 3 ≤ op sampled i .start
+    go zero h n = absurd (n (both-modes sampled (op sampled 0) refl refl))
+    go (suc zero) h n = absurd (n (both-modes sampled (op sampled 1) refl refl))
+    go (suc (suc zero)) h n = omega arith
+    go (suc (suc (suc i))) h n = absurd (omega arith)
+
+-- all of three modes
+always-three : Always k7 (opn 0 1 1 0 0 3) → ⊥
+unfolding has
+always-three x = false≢true (x 2 (omega arith))
+
+-- nobody decides: nothing is asked
+nobody-decided : Decided hasty nobody
+nobody-decided = tt
 
 -- ---- the margin on K4: of the first operation and the second, and the other way round at distance 1 and 2
 k4-margins : margin k4 0 1 1 3 ∷ margin k4 1 0 1 3 ∷ margin k4 1 0 2 3 ∷ [] ≡ pos 5 ∷ negsuc 0 ∷ pos 2 ∷ []
@@ -397,12 +465,13 @@ many-judged : judge (k1-with 5 3 33) ≡ refused 5 694 0
 unfolding judge k1-with
 many-judged = refl
 
--- "header complete, tag due, not a 33rd, length": where one operation more may come, and what stands behind K1's would be a second
+-- "header complete, tag due, not a 33rd, length": where one operation more may come, and what stands behind K1's would be a second; at a 05 the
+-- operations end
 seconds : List (Verdict (List Op))
 unfolding opsFrom k1-bytes
-seconds = map (λ (s : List ℕ). opsFrom k1 (k1-bytes ++ s) 1 22) ([] ∷ (4 ∷ []) ∷ (5 ∷ 0 ∷ 18 ∷ []) ∷ (4 ∷ 0 ∷ 1 ∷ []) ∷ [])
+seconds = map (λ (s : List ℕ). opsFrom k1 (k1-bytes ++ s) 1 22) ([] ∷ (4 ∷ []) ∷ (6 ∷ 0 ∷ 18 ∷ []) ∷ (4 ∷ 0 ∷ 1 ∷ []) ∷ (5 ∷ []) ∷ [])
 
-second-judged : seconds ≡ accepted (k1 .ops) ∷ refused 1 43 0 ∷ refused 2 43 0 ∷ refused 5 43 0 ∷ []
+second-judged : seconds ≡ accepted (k1 .ops) ∷ refused 1 43 0 ∷ refused 2 43 0 ∷ refused 5 43 0 ∷ accepted (k1 .ops) ∷ []
 unfolding seconds
 second-judged = refl
 
@@ -441,7 +510,7 @@ unfolding tried
 cells-counted = refl
 
 moded : ℕ → Table
-moded m = record { len = 5; boards = 1; cells = 0; modes = m; first = 1; follow = replicate m 1; ops = opn 0 1 1 0 0 1 ∷ [] }
+moded m = record { len = 5; boards = 1; cells = 0; modes = m; first = 1; follow = replicate m 1; ops = opn 0 1 1 0 0 1 ∷ []; decider = nobody }
 
 modes-counted : map (λ (m : ℕ). tried (moded m)) (0 ∷ 1 ∷ 32 ∷ 33 ∷ []) ≡ range 5 10 ∷ good ∷ good ∷ range 5 10 ∷ []
 unfolding tried moded
@@ -456,7 +525,7 @@ durations = refl
 -- the full one and one that names 2
 setted : ℕ → ℕ → ℕ → Op → Table
 setted first after0 after1 o =
-    record { len = 5; boards = 2; cells = 2; modes = 2; first = first; follow = after0 ∷ after1 ∷ []; ops = o ∷ [] }
+    record { len = 5; boards = 2; cells = 2; modes = 2; first = first; follow = after0 ∷ after1 ∷ []; ops = o ∷ []; decider = nobody }
 
 each-set : (ℕ → Table) → List Test
 unfolding tried
@@ -481,23 +550,27 @@ unfolding each-set setted
 sets-of-steps = refl
 
 -- 32 cells, modes and 16 boards, each set with every member
-sets-full : tried (record { len = 1000; boards = 16; cells = 32; modes = 32; first = 4294967295; follow = replicate 32 4294967295; ops = opn 999 1 65535 4294967295 4294967295 4294967295 ∷ [] })
+sets-full : tried (record { len = 1000; boards = 16; cells = 32; modes = 32; first = 4294967295; follow = replicate 32 4294967295; ops = opn 999 1 65535 4294967295 4294967295 4294967295 ∷ []; decider = nobody })
     ≡ good
 unfolding tried
 sets-full = refl
 
--- ---- "The longest table has 818 bytes": 32 modes and 32 operations. That such a table is accepted, and none that is longer, is proved in
--- theory/proofs/Lengths.
-longest-length : length (tableBytes (record { len = 0; boards = 0; cells = 0; modes = 0; first = 0; follow = replicate 32 0; ops = replicate 32 noOp }))
+-- ---- "The longest table has 818 bytes", now 822: 32 modes, 32 operations and a decider. That such a table is accepted, and none that is longer, is
+-- proved in theory/proofs/Lengths.
+longest-length : length (tableBytes (record { len = 0; boards = 0; cells = 0; modes = 0; first = 0; follow = replicate 32 0; ops = replicate 32 noOp; decider = decides 0 }))
     ≡ longestTable
 unfolding tableBytes
 longest-length = refl
+
+-- and a header more is looked at
+far : farthest ≡ longestTable + 3
+far = refl
 
 -- ---- a table handed over as numbers: K1's, with another length, counts, first modes, follower words, operations' numbers
 handed : ℕ → ℕ → ℕ → ℕ → ℕ → List ℕ → List ℕ → Test
 unfolding judgeNumbers _then_
 handed p boards cells modes first follow ops =
-    judgeNumbers (record { len = p; boards = boards; cells = cells; modes = modes; first = first; follow = follow; ops = ops }) then accepted tt
+    judgeNumbers (record { len = p; boards = boards; cells = cells; modes = modes; first = first; follow = follow; ops = ops; mark = 0; decider = 0 }) then accepted tt
 
 -- with other first modes, follower words and operations' numbers; with other operations' numbers
 worded : ℕ → List ℕ → List ℕ → Test
@@ -587,7 +660,7 @@ rows = refl
 counted : ℕ → ℕ → ℕ → ℕ → ℕ → Test
 unfolding tried
 counted boards cells modes first after =
-    tried (record { len = 5; boards = boards; cells = cells; modes = modes; first = first; follow = replicate modes after; ops = opn 1 3 1 0 0 1 ∷ [] })
+    tried (record { len = 5; boards = boards; cells = cells; modes = modes; first = first; follow = replicate modes after; ops = opn 1 3 1 0 0 1 ∷ []; decider = nobody })
 
 timed : ℕ → ℕ → ℕ → ℕ → ℕ → ℕ → Test
 unfolding tried
@@ -611,6 +684,7 @@ filled last os =
       first = 4294967295;
       follow = replicate 31 4294967295 ++ (last ∷ []);
       ops = os;
+      decider = nobody;
     })
 
 -- where one operation more may come, and no second
@@ -649,7 +723,7 @@ blamed =
     -- the first modes, the followers of mode 0, and those of mode 2 alone
     ∷ counted 1 0 3 0 0
     ∷ counted 1 0 3 1 8
-    ∷ tried (record { len = 5; boards = 1; cells = 0; modes = 3; first = 1; follow = 1 ∷ 7 ∷ 0 ∷ []; ops = opn 1 3 1 0 0 1 ∷ [] })
+    ∷ tried (record { len = 5; boards = 1; cells = 0; modes = 3; first = 1; follow = 1 ∷ 7 ∷ 0 ∷ []; ops = opn 1 3 1 0 0 1 ∷ []; decider = nobody })
     -- the ranges of a field before what is missing behind it: of the counts, and of the sets
     ∷ continued 5 (2 ∷ 0 ∷ 3 ∷ 1 ∷ 33 ∷ 1 ∷ [])
     ∷ continued 11 (3 ∷ 0 ∷ 8 ∷ 0 ∷ 0 ∷ 0 ∷ 1 ∷ 0 ∷ 0 ∷ 0 ∷ 2 ∷ [])
@@ -695,6 +769,142 @@ places-told : blamed
     ++ (range 5 8 ∷ range 5 10 ∷ good ∷ range 5 10 ∷ range 12 17 ∷ range 12 15 ∷ range 0 3 ∷ range 0 3 ∷ [])
 unfolding blamed
 places-told = refl
+
+-- ---- document 02, No. 4, as one list: the decider's field
+
+-- behind K1, and the numbers of K1 with a mark, a decider and other numbers of operations
+behind-k1 : List ℕ → Test
+unfolding continued
+behind-k1 = continued 43
+
+marked : ℕ → ℕ → List ℕ → Test
+unfolding judgeNumbers _then_
+marked mark who ops =
+    judgeNumbers (record { len = 5; boards = 1; cells = 0; modes = 1; first = 1; follow = 1 ∷ []; ops = ops; mark = mark; decider = who }) then accepted tt
+
+fields-05 : List Test
+unfolding behind-k1 continued marked one-op
+fields-05 =
+    -- the header before all else, then the length, the value, and its range
+    behind-k1 (5 ∷ 0 ∷ [])
+    ∷ behind-k1 (5 ∷ 0 ∷ 0 ∷ [])
+    ∷ behind-k1 (5 ∷ 0 ∷ 2 ∷ 0 ∷ 0 ∷ [])
+    ∷ behind-k1 (5 ∷ 0 ∷ 1 ∷ [])
+    ∷ behind-k1 (5 ∷ 0 ∷ 1 ∷ 0 ∷ [])
+    ∷ behind-k1 (5 ∷ 0 ∷ 1 ∷ 1 ∷ [])
+    ∷ behind-k1 (5 ∷ 0 ∷ 1 ∷ 255 ∷ 4 ∷ [])
+    -- "a field after 05 is ORDER", whatever its tag, and a header that is not there SHORT
+    ∷ behind-k1 (5 ∷ 0 ∷ 1 ∷ 0 ∷ 4 ∷ [])
+    ∷ behind-k1 (5 ∷ 0 ∷ 1 ∷ 0 ∷ 5 ∷ 0 ∷ [])
+    ∷ behind-k1 (5 ∷ 0 ∷ 1 ∷ 0 ∷ 4 ∷ 0 ∷ 18 ∷ [])
+    ∷ behind-k1 (5 ∷ 0 ∷ 1 ∷ 0 ∷ 5 ∷ 0 ∷ 1 ∷ 0 ∷ [])
+    ∷ behind-k1 (5 ∷ 0 ∷ 1 ∷ 0 ∷ 0 ∷ 0 ∷ 0 ∷ [])
+    -- before any operation it is not due
+    ∷ continued 22 (5 ∷ 0 ∷ [])
+    ∷ continued 22 (5 ∷ 0 ∷ 1 ∷ 0 ∷ [])
+    -- handed over: with the mark unset the number is ignored, any other mark is one; no operation, and too large for a byte, though its low bits
+    -- would be fine; numbers missing, and none at all
+    ∷ marked 0 256 one-op
+    ∷ marked 1 0 one-op
+    ∷ marked 256 1 one-op
+    ∷ marked 1 1 one-op
+    ∷ marked 1 256 one-op
+    ∷ marked 1 0 (one-op ++ (1 ∷ []))
+    ∷ marked 1 0 (1 ∷ 3 ∷ 1 ∷ 0 ∷ 0 ∷ [])
+    ∷ marked 1 0 []
+    -- behind two operations; their ranges, and numbers that are missing, come before; then the whole
+    ∷ marked 1 2 (one-op ++ one-op)
+    ∷ marked 1 256 (1 ∷ 0 ∷ 1 ∷ 0 ∷ 0 ∷ 1 ∷ [])
+    ∷ marked 1 256 (one-op ++ (1 ∷ []))
+    ∷ marked 1 1 (one-op ++ one-op)
+    ∷ []
+
+deciders-told : fields-05
+    ≡ (refused 1 43 0 ∷ refused 3 43 0 ∷ refused 3 43 0 ∷ refused 1 43 0 ∷ good ∷ range 43 46 ∷ range 43 46 ∷ [])
+    ++ (refused 1 47 0 ∷ refused 1 47 0 ∷ replicate 3 (refused 2 47 0))
+    ++ (refused 1 22 0 ∷ refused 2 22 0 ∷ [])
+    ++ (good ∷ good ∷ range 43 46 ∷ range 43 46 ∷ range 43 46 ∷ refused 1 43 0 ∷ refused 1 22 0 ∷ refused 2 22 0 ∷ [])
+    ++ (range 64 67 ∷ range 22 27 ∷ refused 1 43 0 ∷ refused 6 0 1 ∷ [])
+unfolding fields-05
+deciders-told = refl
+
+-- who decides is read, and written exactly where it is marked
+k1-decided : judge (k1-bytes ++ (5 ∷ 0 ∷ 1 ∷ 0 ∷ [])) ≡ accepted (withDecider k1 (decides 0))
+unfolding judge k1-bytes
+k1-decided = refl
+
+mark-written : map (λ (mark : ℕ). bytesOf tableBytes (judgeNumbers (record { len = 5; boards = 1; cells = 0; modes = 1; first = 1; follow = 1 ∷ []; ops = one-op; mark = mark; decider = 0 }))) (0 ∷ 1 ∷ [])
+    ≡ accepted k1-bytes ∷ accepted (k1-bytes ++ (5 ∷ 0 ∷ 1 ∷ 0 ∷ [])) ∷ []
+unfolding bytesOf tableBytes judgeNumbers one-op k1-bytes
+mark-written = refl
+
+-- EARLY, on the tables of the bench
+early-told : map tried (analyzer ∷ sampled ∷ hasty ∷ hasty-first ∷ half ∷ unreached-half ∷ unreached-hasty ∷ racing ∷ clashing ∷ [])
+    ≡ good
+    ∷ good
+    ∷ refused 10 0 1
+    ∷ refused 10 1 0
+    ∷ refused 10 1 1
+    ∷ refused 10 0 0
+    ∷ refused 10 0 1
+    ∷ refused 7 0 1
+    ∷ refused 6 0 1
+    ∷ []
+unfolding tried
+early-told = refl
+
+-- the decider starts after 0, and a step starts between its start and its end; a step that is over before the decider starts
+late-decider : tried (coldWarm eachTurn (opn 0 1 4 0 0 3 ∷ opn 1 2 1 0 0 3 ∷ opn 2 1 2 0 0 1 ∷ []) (decides 1))
+    ∷ tried (coldWarm eachTurn (opn 0 1 2 0 0 1 ∷ opn 2 1 1 0 0 3 ∷ []) (decides 1))
+    ∷ []
+    ≡ refused 10 1 2 ∷ refused 10 1 0 ∷ []
+unfolding tried
+late-decider = refl
+
+-- three modes: a decider in all of them; without the second, the third, the first
+three : ℕ → Test
+unfolding tried
+three m = tried (record { len = 6; boards = 2; cells = 1; modes = 3; first = 1; follow = replicate 3 7; ops = opn 0 1 1 0 0 m ∷ []; decider = decides 0 })
+
+three-told : map three (7 ∷ 5 ∷ 3 ∷ 6 ∷ []) ≡ good ∷ replicate 3 (refused 10 0 0)
+unfolding three
+three-told = refl
+
+-- no operation at all, with two modes
+no-op-05 : tried (coldWarm eachTurn [] (decides 0)) ≡ refused 2 26 0
+unfolding tried
+no-op-05 = refl
+
+-- handed over, too
+hasty-handed : judgeNumbers (record { len = 6; boards = 3; cells = 1; modes = 2; first = 1; follow = 3 ∷ 3 ∷ []; ops = 0 ∷ 2 ∷ 1 ∷ 0 ∷ 0 ∷ 3 ∷ 1 ∷ 2 ∷ 2 ∷ 0 ∷ 0 ∷ 1 ∷ []; mark = 1; decider = 0 })
+    ≡ refused 10 0 1
+unfolding judgeNumbers
+hasty-handed = refl
+
+-- a reply has no decider
+reply-05 : judgeReply (17 ∷ 0 ∷ 2 ∷ 0 ∷ 3 ∷ 18 ∷ 0 ∷ 4 ∷ 0 ∷ 1 ∷ 0 ∷ 0 ∷ 5 ∷ 0 ∷ 1 ∷ 0 ∷ []) ≡ refused 2 12 0
+unfolding judgeReply
+reply-05 = refl
+
+-- 32 modes: all of them, and all but the highest
+every-mode : ℕ → Test
+unfolding tried
+every-mode modes =
+    tried
+    (record {
+      len = 2;
+      boards = 1;
+      cells = 0;
+      modes = 32;
+      first = 1;
+      follow = replicate 32 1;
+      ops = opn 0 1 1 0 0 4294967295 ∷ opn 1 1 1 0 0 modes ∷ [];
+      decider = decides 1;
+    })
+
+every-mode-told : every-mode 4294967295 ∷ every-mode 2147483647 ∷ [] ≡ good ∷ refused 10 1 1 ∷ []
+unfolding every-mode
+every-mode-told = refl
 
 -- ---- a lent buffer: "K1 into 11 bytes: refused 8 12 0; into 12 accepted"; the rest of a longer one stays
 k1-no-room : put (replyBytes (replyOf k1 3)) (replicate 11 9) ≡ record { answer = refused 8 12 0; buffer = replicate 11 9 }

@@ -1,10 +1,11 @@
--- Document 01, "Bench tables": K1 to K10, those marked to be proved, each with its whole answer, as one list.
+-- Document 01, "Bench tables": K1 to K10, those marked to be proved, each with its whole answer, as one list; and a list of tables with a decider,
+-- for document 02, No. 4.
 -- Assumes nothing.
 use Prim.Native.Nat.{ℕ}
 use mathlib.Core.Bool.{Bool, true, false}
-use mathlib.Core.List.{List, [], _∷_}
+use mathlib.Core.List.{List, [], _∷_, _++_}
 use lib.IntN.{ℤ, pos, negsuc}
-use Rattle.rules.specs.Table.{Op, Table}
+use Rattle.rules.specs.Table.{Op, Decider, nobody, decides, Table}
 use Rattle.rules.specs.Rows.{Row, Reply, ticks, cycles}
 use Rattle.rules.specs.Verdicts.{Verdict, accepted, refused}
 use Rattle.rules.specs.Bytes.{tableBytes}
@@ -16,7 +17,7 @@ opn t d b r w m = record { start = t; dur = d; boards = b; reads = r; writes = w
 
 -- "One mode that follows itself unless said": length, boards, cells, operations
 abbrev pub oneMode : ℕ → ℕ → ℕ → List Op → Table
-oneMode p b c os = record { len = p; boards = b; cells = c; modes = 1; first = 1; follow = 1 ∷ []; ops = os }
+oneMode p b c os = record { len = p; boards = b; cells = c; modes = 1; first = 1; follow = 1 ∷ []; ops = os; decider = nobody }
 
 -- ---- the tables
 
@@ -52,6 +53,7 @@ twoModes f =
       first = 1;
       follow = f;
       ops = opn 0 4 1 0 0 1 ∷ opn 0 4 2 0 0 2 ∷ [];
+      decider = nobody;
     }
 
 abbrev pub k5 : Table
@@ -72,6 +74,7 @@ k7 =
       first = 1;
       follow = 2 ∷ 4 ∷ 1 ∷ [];
       ops = opn 4 2 2 0 1 1 ∷ opn 0 1 1 1 0 4 ∷ [];
+      decider = nobody;
     }
 
 -- "K8*: p 6; [0,2) board 0 writes c0; [2,3) board 1 reads c0; [3,6) board 2 writes c0."
@@ -89,6 +92,7 @@ k9 =
       first = 2;
       follow = 1 ∷ 2 ∷ [];
       ops = opn 0 4 1 0 0 1 ∷ [];
+      decider = nobody;
     }
 
 -- "K10*: p 3; [0,2) and [1,3) on one board ..  With [0,2) and [2,3) accepted."
@@ -149,4 +153,71 @@ bench =
     ∷ table k9 (reply 1 (row 0 0 ∷ []))
     ∷ table k10 (refused 6 0 1)
     ∷ table k10-touching (reply 3 (row 0 0 ∷ row 2 0 ∷ []))
+    ∷ []
+
+-- ---- document 02, No. 4: tables with a decider
+
+-- two modes, cold and warm: 6 ticks, three boards and a cell
+abbrev pub coldWarm : List ℕ → List Op → Decider → Table
+coldWarm follow os who =
+    record { len = 6; boards = 3; cells = 1; modes = 2; first = 1; follow = follow; ops = os; decider = who }
+
+-- each may follow each; and the second is never reached
+abbrev pub eachTurn : List ℕ
+eachTurn = 3 ∷ 3 ∷ []
+
+abbrev pub noTurn : List ℕ
+noTurn = 1 ∷ 2 ∷ []
+
+-- "a step reads the temperature and decides": [0,2) board 0 writes c0; then on board 1 [2,5) reads it in the cold, and [2,3) in the warm
+abbrev pub analyzer : Table
+analyzer = coldWarm eachTurn (opn 0 2 1 0 1 3 ∷ opn 2 3 2 1 0 1 ∷ opn 2 1 2 1 0 2 ∷ []) (decides 0)
+
+-- [0,1) board 2 in both modes, before the decider, [1,3) on board 0; [3,4) board 1 in the cold
+abbrev pub sampled : Table
+sampled = coldWarm eachTurn (opn 0 1 4 0 0 3 ∷ opn 1 2 1 0 0 3 ∷ opn 3 1 2 0 0 1 ∷ []) (decides 1)
+
+-- the last two start too early, by a tick; the first does, by a tick, and the decider is the last
+abbrev pub hasty : Table
+hasty = coldWarm eachTurn (opn 0 2 1 0 0 3 ∷ opn 1 2 2 0 0 1 ∷ opn 1 2 2 0 0 2 ∷ []) (decides 0)
+
+abbrev pub hasty-first : Table
+hasty-first = coldWarm eachTurn (opn 3 1 2 0 0 2 ∷ opn 0 4 1 0 0 3 ∷ []) (decides 1)
+
+-- the decider runs in the cold alone, and the first starts too early as well
+abbrev pub half : Table
+half = coldWarm eachTurn (opn 0 1 2 0 0 1 ∷ opn 0 2 1 0 0 1 ∷ []) (decides 1)
+
+-- the warm is never reached: a decider that runs in the cold alone; one that runs in both, and a step in the cold that starts too early
+abbrev pub unreached-half : Table
+unreached-half = coldWarm noTurn (opn 0 1 1 0 0 1 ∷ opn 1 1 2 0 0 1 ∷ []) (decides 0)
+
+abbrev pub unreached-hasty : Table
+unreached-hasty = coldWarm noTurn (opn 0 2 1 0 0 3 ∷ opn 1 1 2 0 0 1 ∷ []) (decides 0)
+
+-- a step that starts too early and races with the decider; and one that clashes with it
+abbrev pub racing : Table
+racing = coldWarm eachTurn (opn 0 2 1 0 1 3 ∷ opn 1 1 2 1 0 1 ∷ []) (decides 0)
+
+abbrev pub clashing : Table
+clashing = coldWarm eachTurn (opn 0 2 1 0 0 3 ∷ opn 1 1 1 0 0 1 ∷ []) (decides 0)
+
+-- accepted with a decider; a decider that is no operation; EARLY of each kind; CLASH and RACE before EARLY, and EARLY before ASK
+unfoldable pub deciderBench : List Case
+unfolding k1-bytes tableBytes
+deciderBench =
+    replies (k1-bytes ++ (5 ∷ 0 ∷ 1 ∷ 0 ∷ [])) (reply 3 (row 1 0 ∷ []))
+    ∷ replies (k1-bytes ++ (5 ∷ 0 ∷ 1 ∷ 1 ∷ [])) (refused 4 43 46)
+    ∷ table analyzer (reply 3 (row 0 0 ∷ row 2 0 ∷ row 2 0 ∷ []))
+    ∷ table sampled (reply 2 (row 0 0 ∷ row 1 0 ∷ row 1 1 ∷ []))
+    ∷ table hasty (refused 10 0 1)
+    ∷ table hasty-first (refused 10 1 0)
+    ∷ table half (refused 10 1 1)
+    ∷ table unreached-half (refused 10 0 0)
+    ∷ table unreached-hasty (refused 10 0 1)
+    ∷ table racing (refused 7 0 1)
+    ∷ table clashing (refused 6 0 1)
+    ∷ margins (tableBytes hasty) 3 3 0 0 (refused 10 0 1)
+    ∷ fits (tableBytes hasty) 0 (refused 10 0 1)
+    ∷ arrives (tableBytes hasty) 0 (refused 10 0 1)
     ∷ []

@@ -16,10 +16,12 @@ pub record OpBetter (o u : Op) : Type 0 where
   pub boards : Within (u .boards) (o .boards)
 
 -- "two accepted tables with the same length and, step for step, ..; and let the second permit no turn and no first mode that the first
--- doesn't". That both are accepted is no part of it: the theorem asks for it (`better-right`, in the crate `theory`).
+-- doesn't"; with document 02, No. 4, "both tables of demand 3 name the same decider". That both are accepted is no part of it: the theorem
+-- asks for it (`better-right`, in the crate `theory`).
 pub record Better (first second : Table) : Type 0 where
   pub len : second .len ≡ first .len
   pub count : nops second ≡ nops first
   pub each : (i : ℕ) → i < nops first → OpBetter (op first i) (op second i)
   pub firsts : Within (second .first) (first .first)
   pub turns : (a : ℕ) → Within (followers second a) (followers first a)
+  pub decider : second .decider ≡ first .decider

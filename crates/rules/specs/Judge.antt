@@ -1,5 +1,5 @@
 -- Document 01, "Numbers of refusal": the verdict on a table's bytes, on a table handed over as numbers, and on a reply's bytes. Document 02,
--- No. 7: which number of a field RANGE blames.
+-- No. 7: which number of a field RANGE blames; No. 4: the decider's field, and EARLY.
 -- Assumes nothing.
 use Prim.Native.Nat.{ℕ, zero, suc, _+_, _-_, _*_, _^_}
 use mathlib.Core.Bool.{Bool, cond, not, _&&_, _||_}
@@ -8,9 +8,9 @@ use lib.Dec.{leb, ltb, eqb}
 use lib.Bits.{bitOr}
 use lib.ListN.{length, getD, drop}
 use Rattle.rules.specs.Sets.{shares, overlaps}
-use Rattle.rules.specs.Table.{Op, Table, nops, op, endOf, heldTo}
+use Rattle.rules.specs.Table.{Op, Decider, nobody, decides, Table, nops, op, endOf, heldTo}
 use Rattle.rules.specs.Rows.{Ticks, Row, Reply, ticks, cycles, unfoldAt}
-use Rattle.rules.specs.Verdicts.{Verdict, accepted, SHORT, ORDER, SIZE, RANGE, MANY, CLASH, RACE, Test, refuseIf, _then_, onwards, more, each}
+use Rattle.rules.specs.Verdicts.{Verdict, accepted, refused, SHORT, ORDER, SIZE, RANGE, MANY, CLASH, RACE, EARLY, Test, refuseIf, _then_, onwards, more, each}
 use Rattle.rules.specs.Bytes.{num8, num16, num32, words, opAt, rowAt}
 
 -- ---- one field. "Within one: header complete, tag due, not a 33rd, length, value complete, ranges."
@@ -63,14 +63,18 @@ unfolding header due notMany sized complete ranged _then_
 repeatTest s at left tag size wrong =
     header s at then due s at tag then notMany at left then sized s at size then complete s at size then ranged wrong at
 
--- the repeated fields from a place to the end of the input, when `left` more may come
-module _ {A : Type 0} (tag size : ℕ) (wrong : A → ℕ) (value : List ℕ → ℕ → A) where
+-- the input ends at or before a place
+abbrev pub atEnd : List ℕ → ℕ → Bool
+atEnd s at = leb (length s) at
+
+-- the repeated fields from a place to where they end, when `left` more may come
+module _ {A : Type 0} (ends : List ℕ → ℕ → Bool) (tag size : ℕ) (wrong : A → ℕ) (value : List ℕ → ℕ → A) where
   unfoldable pub fieldsFrom : List ℕ → ℕ → ℕ → Verdict (List A)
   unfolding repeatTest _then_ more
   fieldsFrom s zero at =
-      cond (leb (length s) at) (accepted []) (repeatTest s at 0 tag size (wrong (value s at)) then accepted [])
+      cond (ends s at) (accepted []) (repeatTest s at 0 tag size (wrong (value s at)) then accepted [])
   fieldsFrom s (suc left) at =
-      cond (leb (length s) at) (accepted [])
+      cond (ends s at) (accepted [])
       (repeatTest s at (suc left) tag size (wrong (value s at)) then more (value s at) (fieldsFrom s left (at + 3 + size)))
 
 -- ---- ranges: the numbers of a field one after the other, and which of them is wrong first
@@ -142,6 +146,15 @@ unfoldable pub opWrong : Table → Op → ℕ
 unfolding firstWrong setOk
 opWrong T o = firstWrong (opRanges T o)
 
+-- field 05, behind n operations: "a number that is no operation is RANGE"
+abbrev pub deciderRanges : ℕ → Decider → List Number
+deciderRanges n nobody = []
+deciderRanges n (decides d) = number 1 d (λ i. ltb i n) ∷ []
+
+unfoldable pub deciderWrong : ℕ → Decider → ℕ
+unfolding firstWrong
+deciderWrong n who = firstWrong (deciderRanges n who)
+
 -- ---- CLASH and RACE
 
 -- the tests of Clash and Race
@@ -164,10 +177,29 @@ unfolding each refuseIf
 pairsTest hit number T =
     each (λ i. each (λ j. refuseIf (hit (op T i) (op T j)) number i j) (suc i) (nops T - suc i)) 0 (nops T)
 
--- "Then CLASH over all pairs ..; then RACE likewise"
+-- ---- EARLY
+
+-- the test of Always: the set of all n modes is 2 ^ n - 1, and none that names nothing beyond them is larger
+unfoldable pub always : Table → Op → Bool
+always T o = eqb (o .modes + 1) (2 ^ T .modes)
+
+-- o "doesn't run in every mode", and starts before the end of the decider u
+unfoldable pub early : Table → Op → Op → Bool
+unfolding always
+early T u o = not (always T o) && ltb (o .start) (endOf u)
+
+-- "10 EARLY .. with a the decider and b the lowest operation that starts too early, or b the decider itself where it doesn't run in every mode,
+-- which is tested first": such a decider would be too early for itself, but not always the lowest
+unfoldable pub earlyTest : Table → Decider → Test
+unfolding always early each refuseIf _then_
+earlyTest T nobody = accepted tt
+earlyTest T (decides d) =
+    refuseIf (not (always T (op T d))) EARLY d d then each (λ i. refuseIf (early T (op T d) (op T i)) EARLY d i) 0 (nops T)
+
+-- "Then CLASH over all pairs ..; then RACE likewise"; "EARLY comes after RACE"
 unfoldable pub judgeWhole : Table → Verdict Table
-unfolding pairsTest clashes races _then_
-judgeWhole T = pairsTest clashes CLASH T then pairsTest races RACE T then accepted T
+unfolding pairsTest clashes races earlyTest _then_
+judgeWhole T = pairsTest clashes CLASH T then pairsTest races RACE T then earlyTest T (T .decider) then accepted T
 
 -- ---- a table's bytes
 
@@ -183,9 +215,10 @@ headOf s =
       first = num32 s 14;
       follow = words s 18 (num8 s 10);
       ops = [];
+      decider = nobody;
     }
 
--- a head with its operations
+-- a head with its operations; nobody decides yet
 abbrev pub withOps : Table → List Op → Table
 withOps T os =
     record {
@@ -196,11 +229,30 @@ withOps T os =
       first = T .first;
       follow = T .follow;
       ops = os;
+      decider = T .decider;
+    }
+
+-- a table with its decider
+abbrev pub withDecider : Table → Decider → Table
+withDecider T who =
+    record {
+      len = T .len;
+      boards = T .boards;
+      cells = T .cells;
+      modes = T .modes;
+      first = T .first;
+      follow = T .follow;
+      ops = T .ops;
+      decider = who;
     }
 
 -- where the operations begin: behind the fields 01 (5 bytes), 02 (6) and 03 (7, and 4 for each mode)
 abbrev pub opsPlace : ℕ → ℕ
 opsPlace modes = 18 + 4 * modes
+
+-- and where they end: the field of each has 21 bytes
+abbrev pub opsEnd : Table → ℕ
+opsEnd T = opsPlace (T .modes) + 21 * nops T
 
 -- "Table fields, in this order and no other"
 unfoldable pub headTest : List ℕ → Test
@@ -212,18 +264,43 @@ headTest s =
     then fieldTest s 11 3 (4 + 4 * T .modes) (setsWrong (T .modes) (T .first ∷ T .follow))
     then needed s (opsPlace (T .modes))
 
--- the operations' fields from a place to the end of the input, when so many more may come
+-- the operations end with the input, or at a field 05, which is due behind the first of them
+unfoldable pub opsDone : Table → List ℕ → ℕ → Bool
+opsDone T s at = atEnd s at || (ltb (opsPlace (T .modes)) at && eqb (num8 s at) 5)
+
+-- the operations' fields from a place on, when so many more may come
 unfoldable pub opsFrom : Table → List ℕ → ℕ → ℕ → Verdict (List Op)
-unfolding fieldsFrom opWrong
-opsFrom T = fieldsFrom 4 18 (opWrong T) opAt
+unfolding opsDone fieldsFrom opWrong
+opsFrom T = fieldsFrom (opsDone T) 4 18 (opWrong T) opAt
+
+-- "a field after 05 is ORDER": at a place behind it nothing is due, but a header is read before its tag is looked at
+unfoldable pub nothingDue : List ℕ → ℕ → Test
+unfolding header _then_
+nothingDue s at = cond (atEnd s at) (accepted tt) (header s at then refused ORDER at 0)
+
+-- the decider of operations that end at a place: nobody where the input ends there too, else the byte behind the header
+abbrev pub deciderAt : List ℕ → ℕ → Decider
+deciderAt s at = cond (atEnd s at) nobody (decides (num8 s (at + 3)))
+
+-- "An optional last field 05, length 1", at a place behind n operations
+unfoldable pub deciderTest : List ℕ → ℕ → ℕ → Test
+unfolding fieldTest deciderWrong nothingDue _then_
+deciderTest s at n =
+    cond (atEnd s at) (accepted tt) (fieldTest s at 5 1 (deciderWrong n (deciderAt s at)) then nothingDue s (at + 4))
+
+-- the decider's field behind a table's operations, and then the table as a whole
+unfoldable pub judgeBehind : List ℕ → Table → Verdict Table
+unfolding deciderTest judgeWhole _then_
+judgeBehind s T = deciderTest s (opsEnd T) (nops T) then judgeWhole (withDecider T (deciderAt s (opsEnd T)))
 
 unfoldable pub judge : List ℕ → Verdict Table
-unfolding headTest headOf opsFrom judgeWhole onwards _then_
+unfolding headTest headOf opsFrom judgeBehind onwards _then_
 judge s =
     headTest s
-    then onwards (opsFrom (headOf s) s 32 (opsPlace (headOf s .modes))) (λ os. judgeWhole (withOps (headOf s) os))
+    then onwards (opsFrom (headOf s) s 32 (opsPlace (headOf s .modes))) (λ os. judgeBehind s (withOps (headOf s) os))
 
--- ---- a table handed over as numbers: "six for each operation, in layout order"
+-- ---- a table handed over as numbers: "six for each operation, in layout order"; the decider with a mark that says whether it is there, 0 where it
+-- is not
 pub record Numbers : Type 0 where
   pub len : ℕ
   pub boards : ℕ
@@ -232,6 +309,8 @@ pub record Numbers : Type 0 where
   pub first : ℕ
   pub follow : List ℕ
   pub ops : List ℕ
+  pub mark : ℕ
+  pub decider : ℕ
 
 -- the operation whose six numbers stand first
 abbrev pub opOfNumbers : List ℕ → Op
@@ -256,7 +335,12 @@ headOfNumbers N =
       first = N .first;
       follow = N .follow;
       ops = [];
+      decider = nobody;
     }
+
+-- who decides: with the mark unset the number is ignored
+abbrev pub deciderOf : Numbers → Decider
+deciderOf N = cond (eqb (N .mark) 0) nobody (decides (N .decider))
 
 -- "judged as if first written in this layout and then read": each field at the offset that it would have. "A wrong count of follower words
 -- is SIZE, a number too large for its field RANGE, an operation with numbers missing SHORT." A number that is too large for its field is
@@ -281,13 +365,19 @@ opsOfNumbers T ns (suc left) at =
     then ranged (opWrong T (opOfNumbers ns)) at
     then more (opOfNumbers ns) (opsOfNumbers T (drop 6 ns) left (at + 21)))
 
+-- the decider, at the place that its field would have, and then the table as a whole. No byte is too small for the number of an operation, so that a
+-- number too large for it is none.
+unfoldable pub judgeDecider : Decider → Table → Verdict Table
+unfolding ranged deciderWrong judgeWhole _then_
+judgeDecider who T = ranged (deciderWrong (nops T) who) (opsEnd T) then judgeWhole (withDecider T who)
+
 unfoldable pub judgeNumbers : Numbers → Verdict Table
-unfolding numbersTest opsOfNumbers judgeWhole onwards _then_
+unfolding numbersTest opsOfNumbers judgeDecider onwards _then_
 judgeNumbers N =
     numbersTest N
     then onwards
     (opsOfNumbers (headOfNumbers N) (N .ops) 32 (opsPlace (N .modes)))
-    (λ os. judgeWhole (withOps (headOfNumbers N) os))
+    (λ os. judgeDecider (deciderOf N) (withOps (headOfNumbers N) os))
 
 -- ---- a reply's bytes: "the period is 1 to 1000, each folded start is below it, each unfolded start is at most 999, and there are 1 to 32
 -- operations"; "a reply's unfolded start above 999" blames "its start index"
@@ -307,7 +397,7 @@ replyTest s = fieldTest s 0 17 2 (lenWrong (num16 s 3)) then needed s 5
 
 unfoldable pub rowsFrom : Ticks → List ℕ → ℕ → ℕ → Verdict (List Row)
 unfolding fieldsFrom rowWrong
-rowsFrom q = fieldsFrom 18 4 (rowWrong q) rowAt
+rowsFrom q = fieldsFrom atEnd 18 4 (rowWrong q) rowAt
 
 unfoldable pub judgeReply : List ℕ → Verdict Reply
 unfolding replyTest rowsFrom onwards _then_

@@ -1,4 +1,4 @@
--- Document 01, "The table": what a table is, and when it is accepted.
+-- Document 01, "The table": what a table is, and when it is accepted; document 02, No. 4: who decides the mode.
 -- Assumes nothing.
 use Prim.Native.Nat.{ℕ, _+_, _^_, _<_, _≤_}
 use mathlib.Core.Path.{_≡_}
@@ -16,8 +16,13 @@ pub record Op : Type 0 where
   pub writes : ℕ
   pub modes : ℕ
 
+-- document 02, No. 4: "An optional last field 05, length 1, gives the number of the deciding operation." A table names one, or nobody decides.
+pub data Decider : Type 0 where
+  nobody : Decider
+  decides : (i : ℕ) → Decider
+
 -- "table length p, in ticks", the counts of boards, cells and modes, "a set of first modes .. and for each mode the set of modes that may
--- follow", and the operations
+-- follow", the operations, and who decides
 pub record Table : Type 0 where
   pub len : ℕ
   pub boards : ℕ
@@ -26,6 +31,7 @@ pub record Table : Type 0 where
   pub first : ℕ
   pub follow : List ℕ
   pub ops : List Op
+  pub decider : Decider
 
 -- ---- names for parts of a table
 
@@ -73,6 +79,23 @@ pub record Race (o u : Op) : Type 0 where
   pub lap : Overlap (o .start) (endOf o) (u .start) (endOf u)
   pub cell : (c : ℕ) × Contest o u c
 
+-- ---- who decides: document 02, No. 4
+
+-- an operation that runs "in every mode", reachable or not
+abbrev pub Always : Table → Op → Type 0
+Always T o = (m : ℕ) → m < T .modes → In m (o .modes)
+
+-- "It must run in every mode. An operation that doesn't run in every mode must start at or after its end.": operation d decides
+pub record DecidedBy (T : Table) (d : ℕ) : Type 0 where
+  pub isOp : d < nops T
+  pub always : Always T (op T d)
+  pub later : (i : ℕ) → i < nops T → (Always T (op T i) → ⊥) → endOf (op T d) ≤ op T i .start
+
+-- "Without the field the table reads as before": then nothing is asked
+abbrev pub Decided : Table → Decider → Type 0
+Decided T nobody = Unit {0}
+Decided T (decides d) = DecidedBy T d
+
 -- ---- acceptance
 
 -- a set that is "not empty" and "names nothing beyond the table's counts"
@@ -90,7 +113,7 @@ pub record OpOk (T : Table) (o : Op) : Type 0 where
   pub writes : o .writes < 2 ^ T .cells
   pub modes : SetOf (T .modes) (o .modes)
 
--- The table of ranges, each set's rule, and "An accepted table has neither, for any mode, reachable or not."
+-- The table of ranges, each set's rule, "An accepted table has neither, for any mode, reachable or not", and the decider's rule
 pub record Accepted (T : Table) : Type 0 where
   pub len-low : 1 ≤ T .len
   pub len-high : T .len ≤ 1000
@@ -107,3 +130,4 @@ pub record Accepted (T : Table) : Type 0 where
   pub each : (i : ℕ) → i < nops T → OpOk T (op T i)
   pub no-clash : (i j : ℕ) → i < j → j < nops T → Clash (op T i) (op T j) → ⊥
   pub no-race : (i j : ℕ) → i < j → j < nops T → Race (op T i) (op T j) → ⊥
+  pub decided : Decided T (T .decider)

@@ -37,6 +37,10 @@ ROOM = 8
 abbrev pub ASK : ℕ
 ASK = 9
 
+-- document 02, No. 4
+abbrev pub EARLY : ℕ
+EARLY = 10
+
 -- a test with nothing to hand on
 abbrev pub Test : Type 0
 Test = Verdict (Unit {0})

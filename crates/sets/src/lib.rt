@@ -1,7 +1,7 @@
 // Sets of boards, cells or modes, each a number: m is a member of s where bit m of s is 1. Union and intersection are `|` and `&`.
 ghost use mathlib.Core.Path.{_≡_};
-ghost use Prim.Native.Nat.{_^_, _<_, _≤_};
-ghost use lib.Dec.{ltb};
+ghost use Prim.Native.Nat.{_+_, _^_, _<_, _≤_};
+ghost use lib.Dec.{eqb, ltb};
 ghost use lib.Bits.{bitOr};
 ghost use lib.ListN.{getD};
 ghost use Rattle.rules.specs.Sets.{has, shares};
@@ -29,6 +29,14 @@ pub fn is_within(n: u32, s: u64) -> bool
     ensures { λ r. ⌜ r ≡ ltb s (2 ^ n) ⌝ }
 {
     s < (1u64 << n)
+}
+
+// s names each of the first n, and nothing beyond them
+pub fn is_all(n: u32, s: u32) -> bool
+    requires { ⌜ n ≤ 32 ⌝ }
+    ensures { λ r. ⌜ r ≡ eqb (s + 1) (2 ^ n) ⌝ }
+{
+    s as u64 + 1 == (1u64 << n)
 }
 
 // s is not empty, and names nothing beyond the first n

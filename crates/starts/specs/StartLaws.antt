@@ -9,7 +9,8 @@ use lib.Seq.{take-all}
 use Rattle.rules.specs.Rows.{Ticks, Row, Reply, ticks, unfoldAt, startsOf}
 use Rattle.rules.specs.Verdicts.{Verdict, accepted, refused, ORDER, ROOM, Test, _then_, onwards, more}
 use Rattle.rules.specs.Bytes.{num16, be16, joined, rowAt, startsBytes}
-use Rattle.rules.specs.Judge.{needed, repeatTest, rowWrong, rowsFrom, judgeReply}
+use borrow.Author.Tests.{le-leb, lt-leb}
+use Rattle.rules.specs.Judge.{needed, repeatTest, atEnd, rowWrong, rowsFrom, judgeReply}
 use Rattle.rules.specs.Answers.{Written, written, bytesOf, IsUnfold}
 use Rattle.theory.proofs.Verdicts.{then-accepts, then-refuses, onwards-accepts, onwards-first}
 use Rattle.theory.proofs.Replies.{ReplyIn, reply-row, reply-in}
@@ -39,12 +40,12 @@ module _ (q : Ticks) (s : List ℕ) (left at : ℕ) where
 
   pub rows-end : length s ≤ at → accepted tt ≡ heard (rowsFrom q s left at)
   unfolding heard rowsFrom onwards
-  rows-end h = sym (ap heard (no-field 18 4 (rowWrong q) rowAt s at left h))
+  rows-end h = sym (ap heard (no-field atEnd 18 4 (rowWrong q) rowAt s at left (le-leb (length s) at h)))
 
   pub rows-bad : (r : Refusal) → at < length s → refusalOf r ≡ here → refusalOf r ≡ heard (rowsFrom q s left at)
   unfolding heard rowsFrom
   rows-bad r h e =
-      sym (onwards-refusal r _ (from-next 18 4 (rowWrong q) rowAt s left at h ∙ onwards-refusal r _ (then-refusal r (accepted (rowAt s at)) (sym e))))
+      sym (onwards-refusal r _ (from-next 18 4 (rowWrong q) rowAt s atEnd left at (lt-leb (length s) at h) ∙ onwards-refusal r _ (then-refusal r (accepted (rowAt s at)) (sym e))))
 
   pub rows-more : at < length s → accepted tt ≡ here
       → (at + 7 ≤ length s) × (left ≡ 0 → ⊥) × (heard (rowsFrom q s left at) ≡ heard (rowsFrom q s (left - 1) (at + 7)))
@@ -53,7 +54,7 @@ module _ (q : Ticks) (s : List ℕ) (left at : ℕ) where
       let whole = repeat-whole 18 4 (rowWrong q) rowAt s left at (sym e) in (
         omega (arith, whole .0),
         whole .1,
-        ap heard (from-next 18 4 (rowWrong q) rowAt s left at h ∙ onwards-accepts _ (then-accepts (accepted (rowAt s at)) (sym e)))
+        ap heard (from-next 18 4 (rowWrong q) rowAt s atEnd left at (lt-leb (length s) at h) ∙ onwards-accepts _ (then-accepts (accepted (rowAt s at)) (sym e)))
             ∙ heard-more (rowAt s at) _,
       )
 

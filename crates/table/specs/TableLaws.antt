@@ -4,11 +4,11 @@ use Prim.Native.Nat.{ℕ, suc, _+_, _-_, _<_, _≤_}
 use mathlib.Core.Path.{_≡_, refl, sym, ap, subst⁻¹, _∙_}
 use mathlib.Core.List.{List, [], _∷_, _++_, map, append-assoc}
 use native.Mathlib.Omega.{arith}
-use lib.ListN.{length, getD, take, set, replicate, length-map, length-append, List·getD-map}
+use lib.ListN.{length, getD, take, set, replicate, length-map, length-append, length-take, List·getD-map}
 use lib.Seq.{take-at, set-at, getD-take, length-take-le}
 use Rattle.rules.specs.Table as rules
 use Rattle.rules.specs.Judge.{withOps}
-use Rattle.table.specs.Tables.{opOf, opIn, blankOp, padded, tableOf, tableIn, withOp, Good}
+use Rattle.table.specs.Tables.{opOf, opIn, blankOp, whoOf, whoIn, padded, tableOf, tableIn, withOp, Good}
 use Rattle.table.specs.declared.Op.{Op}
 use Rattle.table.specs.declared.Table.{Table}
 
@@ -31,12 +31,17 @@ ops-back : (os : List rules.Op) → map opOf (map opIn os) ≡ os
 ops-back [] = refl
 ops-back (o ∷ os) = ap (λ (us : List rules.Op). o ∷ us) (ops-back os)
 
+pub who-back : (who : rules.Decider) → whoOf (whoIn who) ≡ who
+who-back rules.nobody = refl
+who-back (rules.decides i) = refl
+
 pub table-back : (T : rules.Table) → length (T .follow) ≡ T .modes → tableOf (tableIn T) ≡ T
 table-back T e =
     rw (
       take-padded 32 0 (T .follow) (T .modes) (sym e),
       take-padded 32 blankOp (map opIn (T .ops)) (length (T .ops)) (sym (length-map (T .ops) opIn)),
       ops-back (T .ops),
+      who-back (T .decider),
     )
 
 -- one operation more
@@ -58,6 +63,12 @@ pub good-in : (T : rules.Table) → rules.Accepted T → Good (tableIn T)
 good-in T ok =
     let e = table-back T (ok .words) in
     record { accepted = subst⁻¹ (λ (U : rules.Table). rules.Accepted U) e ok; tidy = ap tableIn (sym e) }
+
+-- a table that is zero where nothing counts has as many operations as its array at most
+pub kept-few : (t : Table) → length (t .ops) ≡ 32 → t ≡ tableIn (tableOf t) → t .count ≤ 32
+kept-few t long e =
+    let count : t .count ≡ length (map opOf (take (t .count) (t .ops))) = ap (λ (u : Table). u .count) e in
+    omega (arith, length-map (take (t .count) (t .ops)) opOf, length-take (t .count) (t .ops))
 
 -- ---- the operations that count
 pub op-at : (t : Table) (i : ℕ) → i < t .count → rules.op (tableOf t) i ≡ opOf (getD (t .ops) i blankOp)

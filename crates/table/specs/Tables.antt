@@ -9,7 +9,10 @@ use Rattle.rules.specs.Table.{nops}
 use Rattle.rules.specs.Verdicts.{accepted, refused, onwards}
 use Rattle.rules.specs.Verdicts as verdicts
 use Rattle.fields.specs.Verdicts.{tested}
+use Rattle.fields.specs.declared.Verdict.the-variants.{Accepted}
 use Rattle.table.specs.declared.Op.{Op}
+use Rattle.table.specs.declared.Decider.{Decider}
+use Rattle.table.specs.declared.Decider.the-variants.{Nobody, Decides}
 use Rattle.table.specs.declared.Table.{Table}
 use Rattle.table.specs.declared.Judged.{Judged}
 
@@ -26,6 +29,10 @@ opOf o =
       modes = o .modes;
     }
 
+abbrev pub whoOf : Decider → rules.Decider
+whoOf Nobody = rules.nobody
+whoOf (Decides i) = rules.decides i
+
 -- the words and operations that count
 abbrev pub tableOf : Table → rules.Table
 tableOf t =
@@ -37,6 +44,7 @@ tableOf t =
       first = t .first;
       follow = take (t .modes) (t .follow);
       ops = map opOf (take (t .count) (t .ops));
+      decider = whoOf (t .decider);
     }
 
 -- ---- from the rules to the code: what does not count is zero
@@ -55,6 +63,10 @@ opIn o =
 abbrev pub blankOp : Op
 blankOp = opIn rules.noOp
 
+abbrev pub whoIn : rules.Decider → Decider
+whoIn rules.nobody = Nobody
+whoIn (rules.decides i) = Decides i
+
 -- as many as n, filled up with d
 unfoldable pub padded : {A : Type 0} → ℕ → A → List A → List A
 padded n d xs = xs ++ replicate (n - length xs) d
@@ -70,6 +82,7 @@ tableIn T =
       follow = padded 32 0 (T .follow);
       ops = padded 32 blankOp (map opIn (T .ops));
       count = nops T;
+      decider = whoIn (T .decider);
     }
 
 -- the table with nothing in it
@@ -84,6 +97,7 @@ noTable =
       follow = replicate 32 0;
       ops = replicate 32 blankOp;
       count = 0;
+      decider = Nobody;
     }
 
 -- one operation more: what a store of o at the table's count, and one added to the count, make of t
@@ -98,6 +112,7 @@ withOp t o =
       follow = t .follow;
       ops = set (t .ops) (t .count) o;
       count = t .count + 1;
+      decider = t .decider;
     }
 
 -- ---- a verdict with its table
@@ -111,6 +126,10 @@ tableFor (refused n a b) = noTable
 pub record JudgedAs (v : verdicts.Verdict rules.Table) (r : Judged) : Type 0 where
   pub said : tested (r .verdict) ≡ onwards v (λ T. accepted tt)
   pub table : r .table ≡ tableFor v
+
+-- a table that is accepted is zero where nothing counts
+abbrev pub Tidy : Judged → Type 0
+Tidy j = j .verdict ≡ Accepted → j .table ≡ tableIn (tableOf (j .table))
 
 -- ---- what the engine takes: an accepted table, with zeros where nothing counts
 pub record Good (t : Table) : Type 0 where

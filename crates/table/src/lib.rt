@@ -1,5 +1,6 @@
 // A table as the code hands it around, by value, its dates and its places.
 ghost use mathlib.Core.Path.{_≡_};
+ghost use Prim.Native.Nat.{_+_, _*_, _≤_};
 ghost use Rattle.rules.specs.Table.{endOf, heldTo};
 ghost use Rattle.rules.specs.Judge.{opsPlace};
 ghost use Rattle.fields.specs.Verdicts.{refusalOf};
@@ -16,6 +17,12 @@ pub struct Op {
     pub modes: u32,
 }
 
+// The operation that decides, by its number, or none.
+pub enum Decider {
+    Nobody,
+    Decides(usize),
+}
+
 // The first `modes` words of `follow` and the first `count` operations count; the others are zero.
 pub struct Table {
     pub len: u32,
@@ -26,6 +33,7 @@ pub struct Table {
     pub follow: [u32; 32],
     pub ops: [Op; 32],
     pub count: usize,
+    pub decider: Decider,
 }
 
 // A verdict with its table; on a refusal the table is the empty one.
@@ -57,6 +65,7 @@ pub fn empty() -> Table
         follow,
         ops,
         count: 0,
+        decider: Decider::Nobody,
     }
 }
 
@@ -92,4 +101,12 @@ pub fn ops_place(modes: u32) -> usize
     ensures { λ r. ⌜ r ≡ opsPlace modes ⌝ }
 {
     18 + 4 * (modes as usize)
+}
+
+// Where they end: each has 21 bytes.
+pub fn ops_end(modes: u32, count: usize) -> usize
+    requires { ⌜ count ≤ 32 ⌝ }
+    ensures { λ r. ⌜ r ≡ opsPlace modes + 21 * count ⌝ }
+{
+    ops_place(modes) + 21 * count
 }

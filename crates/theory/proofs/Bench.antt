@@ -8,7 +8,7 @@ use Rattle.rules.specs.Rows.{Reply, margin}
 use Rattle.rules.specs.Verdicts.{Verdict, accepted, _then_, onwards}
 use Rattle.rules.specs.Judge.{judge}
 use Rattle.rules.specs.Answers.{ReplyTo, BoardsFit, ValuesArrive, marginTest}
-use Rattle.rules.specs.Bench.{Case, replies, margins, fits, arrives, Holds, All, bench}
+use Rattle.rules.specs.Bench.{Case, replies, margins, fits, arrives, Holds, All, bench, deciderBench}
 use Rattle.theory.specs.Tests.{planOf, boardsAnswer, valuesAnswer}
 use Rattle.theory.proofs.Answering.{reply-found, boards-found, values-found}
 
@@ -55,3 +55,11 @@ computes = refl
 -- K1 to K10, K1's two margins, and the two questions about K4 at 3 and K7 at 2, each with its whole answer
 pub bench-holds : All Holds bench
 bench-holds = all-computed bench computes
+
+-- document 02, No. 4: tables with a decider
+decider-computes : map computed deciderBench ≡ map expected deciderBench
+unfolding computed expected deciderBench
+decider-computes = refl
+
+pub decider-bench-holds : All Holds deciderBench
+decider-bench-holds = all-computed deciderBench decider-computes

@@ -5,22 +5,24 @@ use Prim.Native.Nat.{ℕ, zero, suc, _+_, _*_, _<_, _≤_}
 use mathlib.Core.Path.{_≡_, refl, sym, ap, subst, _∙_}
 use mathlib.Core.Bool.{Bool, false, not}
 use mathlib.Core.List.{List, [], _∷_}
+use mathlib.Core.Logic.{_⊎_, inl, inr}
 use native.Mathlib.Omega.{arith}
 use lib.Dec.{leb, ltb, eqb}
 use lib.ListN.{length, getD, drop}
-use lib.Seq.{drop-drop}
-use borrow.Author.Tests.{eqb-false, lt-ltb, not-true}
-use Rattle.rules.specs.Table.{Op, Table}
+use borrow.Author.Tests.{eqb-true, eqb-false, lt-ltb, not-true, not-false}
+use Rattle.rules.specs.Table.{Op, noOp, Decider, decides, Table, nops}
 use Rattle.rules.specs.Rows.{Ticks, ticks}
 use Rattle.rules.specs.Verdicts.{Verdict, accepted, refused, SHORT, ORDER, SIZE, RANGE, MANY, CLASH, RACE, refuseIf, _then_, more}
 use Rattle.rules.specs.Bytes.{num8, num16, num32, words, opAt, rowAt}
-use Rattle.rules.specs.Judge.{needed, header, due, sized, complete, notMany, ranged, fieldTest, repeatTest, fieldsFrom, Number, firstWrong, lenRanges, lenWrong, countRanges, countsWrong, setRanges, setsWrong, opRanges, opWrong, clashes, races, pairsTest, judgeWhole, headOf, withOps, opsPlace, headTest, opsFrom, judge, Numbers, opOfNumbers, headOfNumbers, numbersTest, opsOfNumbers, judgeNumbers, rowRanges, rowWrong, rowsFrom, judgeReply}
+use Rattle.rules.specs.Judge.{needed, header, due, sized, complete, notMany, ranged, fieldTest, repeatTest, atEnd, fieldsFrom, Number, firstWrong, lenRanges, lenWrong, countRanges, countsWrong, setRanges, setsWrong, opRanges, opWrong, deciderRanges, deciderWrong, clashes, races, pairsTest, earlyTest, judgeWhole, headOf, withOps, withDecider, opsPlace, opsEnd, headTest, opsDone, opsFrom, nothingDue, deciderAt, judgeBehind, judge, Numbers, opOfNumbers, headOfNumbers, deciderOf, numbersTest, opsOfNumbers, judgeNumbers, rowRanges, rowWrong, rowsFrom, judgeReply}
 use Rattle.theory.specs.Numbers.{opAmong}
-use Rattle.theory.specs.Blamed.{bytesBefore, among, Names, numberAt, ReadFrom, stepAt, rowThere, Blames, length-wrong, count-wrong, set-wrong, step-wrong, ReplyBlames, period-wrong, row-wrong}
+use Rattle.theory.specs.Blamed.{bytesBefore, among, Names, numberAt, ReadFrom, stepAt, FieldBehind, HandedBehind, rowThere, Blames, length-wrong, count-wrong, set-wrong, step-wrong, decider-wrong, ReplyBlames, period-wrong, row-wrong}
 use Rattle.theory.proofs.Says.{clash-bool}
-use Rattle.theory.proofs.Verdicts.{never-refused, passed, fault-refused, then-first, then-refused, onwards-refused, more-refused}
+use Rattle.theory.proofs.Verdicts.{never-refused, passed, fault-refused, then-first, then-rest, then-refused, onwards-refused, more-first, more-refused}
 use Rattle.theory.proofs.Ranges.{first-told, told-first, range-passed}
-use Rattle.theory.proofs.Judging.{both, field-row, repeat-row, field-passed, repeat-passed, fields-end, fields-next, pairs-refused, whole-row, head-row, head-ok, judge-row, numbers-end, numbers-next, numbers-row, numbers-ok, judgeNumbers-row}
+use Rattle.theory.proofs.Deciders.{early-number}
+use Rattle.theory.proofs.Judging.{both, field-row, repeat-row, field-passed, repeat-passed, fields-end, fields-next, fields-values, pairs-refused, whole-row, HeadOk, head-row, head-ok, judge-row, behind-row, decider-row, nothing-row, ops-passing, numbers-end, numbers-next, numbers-passing, numbers-row, numbers-ok, judgeDecider-row, judgeNumbers-row}
+use Rattle.theory.proofs.Numbers.{after-op}
 use Rattle.theory.proofs.Replies.{reply-row}
 
 -- ---- tests that are not of ranges
@@ -66,16 +68,24 @@ module _ (s : List ℕ) (at : ℕ) where
   unfolding complete
   complete-other size = other-if (ltb (length s) (at + 3 + size)) SHORT at 0 (λ e. omega arith)
 
+  nothing-other : Other (nothingDue s at)
+  nothing-other a b e =
+      both (leb (length s) at) (sym (nothing-row s at) ∙ e)
+      (λ _ x. never-refused {x = tt} (sym x))
+      (λ _ x. then-refused _ _ x (λ h. header-other a b h) (λ _ _ h. let z : ORDER ≡ RANGE = cc in omega arith))
+
 pub many-other : (at left : ℕ) → Other (notMany at left)
 unfolding notMany
 many-other at left = other-if (eqb left 0) MANY at 0 (λ e. omega arith)
 
--- CLASH and RACE have numbers of their own
+-- CLASH, RACE and EARLY have numbers of their own
 pub whole-other : (T : Table) → Other (judgeWhole T)
 whole-other T a b e =
-    other-then (pairsTest clashes CLASH T) (pairsTest races RACE T then accepted T)
+    other-then (pairsTest clashes CLASH T) (pairsTest races RACE T then earlyTest T (T .decider) then accepted T)
     (λ i j h. let same = pairs-refused clashes CLASH T RANGE i j h .0 in omega arith)
-    (other-then (pairsTest races RACE T) (accepted T) (λ i j h. let same = pairs-refused races RACE T RANGE i j h .0 in omega arith) (other-accepted T))
+    (other-then (pairsTest races RACE T) (earlyTest T (T .decider) then accepted T)
+    (λ i j h. let same = pairs-refused races RACE T RANGE i j h .0 in omega arith)
+    (other-then (earlyTest T (T .decider)) (accepted T) (λ i j h. let same = early-number T (T .decider) h in omega arith) (other-accepted T)))
     a b (sym (whole-row T) ∙ e)
 
 -- ---- one field
@@ -95,6 +105,15 @@ module _ (s : List ℕ) (at tag size wrong : ℕ) {a b : ℕ} where
       let (_, _, e1) = behind _ _ (sized-other s at size) e in
       let (_, _, e2) = behind _ _ (complete-other s at size) e1 in
       e2
+
+  -- the field has its tag, and a number that is wrong
+  field-tag : fieldTest s at tag size wrong ≡ refused RANGE a b → num8 s at ≡ tag
+  unfolding due
+  field-tag e =
+      let (_, _, e1) = behind _ _ (needed-other s at) (sym (field-row s at tag size wrong) ∙ e) in
+      let (_, _, e2) = behind _ _ (header-other s at) e1 in
+      let (_, passes, _) = behind _ _ (due-other s at tag) e2 in
+      eqb-true (num8 s at) tag (not-false _ (passed _ ORDER at 0 passes))
 
   field-blames : fieldTest s at tag size wrong ≡ refused RANGE a b → ranged wrong at ≡ refused RANGE a b
   field-blames e =
@@ -145,18 +164,18 @@ module _ {A : Type 0} (wrong : A → ℕ) (value : ℕ → A) (unit left at a b 
       earlier (suc j) h = ap wrong (sym (same j)) ∙ x .before j (omega arith)
 
 -- repeated fields
-module _ {A : Type 0} (tag size : ℕ) (wrong : A → ℕ) (value : List ℕ → ℕ → A) (s : List ℕ) {a b : ℕ} where
-  fields-blames : (left at : ℕ) → fieldsFrom tag size wrong value s left at ≡ refused RANGE a b
+module _ {A : Type 0} (ends : List ℕ → ℕ → Bool) (tag size : ℕ) (wrong : A → ℕ) (value : List ℕ → ℕ → A) (s : List ℕ) {a b : ℕ} where
+  fields-blames : (left at : ℕ) → fieldsFrom ends tag size wrong value s left at ≡ refused RANGE a b
       → FirstRange wrong (λ j. value s (at + (3 + size) * j)) (3 + size) left at a b
   fields-blames zero at e =
-      both (leb (length s) at) (sym (fields-end tag size wrong value s at) ∙ e)
+      both (ends s at) (sym (fields-end ends tag size wrong value s at) ∙ e)
       (λ _ x. never-refused {x = []} (sym x))
       (λ _ x.
       then-refused _ _ x
       (λ h. let (more, _) = repeat-blames s at tag size _ 0 h in absurd (omega arith))
       (λ _ _ h. never-refused {x = []} (sym h)))
   fields-blames (suc left) at e =
-      both (leb (length s) at) (sym (fields-next tag size wrong value s left at) ∙ e)
+      both (ends s at) (sym (fields-next ends tag size wrong value s left at) ∙ e)
       (λ _ x. never-refused {x = []} (sym x))
       (λ _ x.
       then-refused _ _ x
@@ -190,54 +209,107 @@ module _ (T : Table) {a b : ℕ} where
       then-refused _ _ e1
       (λ h. range-here (opWrong T) (opAmong ns) 21 left at a b h)
       (λ _ h m.
-      range-more (opWrong T) (opAmong ns) 21 left at a b (opAmong (drop 6 ns)) (at + 21) same refl (range-passed _ at h)
+      range-more (opWrong T) (opAmong ns) 21 left at a b (opAmong (drop 6 ns)) (at + 21) (after-op ns) refl (range-passed _ at h)
       (ops-blames (drop 6 ns) left (at + 21) (more-refused _ _ m))))
+
+module _ (T : Table) where
+  -- in those that are accepted no number is wrong
+  ops-fine : (ns : List ℕ) (left at : ℕ) (os : List Op) → opsOfNumbers T ns left at ≡ accepted os → (j : ℕ) → j < length os → opWrong T (opAmong ns j) ≡ 0
+  ops-fine ns zero at os e j h =
+      both (eqb (length ns) 0) (sym (numbers-end T ns at) ∙ e)
+      (λ _ x. let same : [] ≡ os = cc in absurd (omega (arith, ap (λ (us : List Op). length us) same)))
+      (λ _ x. let same : [] ≡ os = cc (then-rest (notMany at 0) (accepted []) x) in absurd (omega (arith, ap (λ (us : List Op). length us) same)))
+  ops-fine ns (suc left) at os e j h =
+      both (eqb (length ns) 0) (sym (numbers-next T ns left at) ∙ e)
+      (λ _ x. let same : [] ≡ os = cc in absurd (omega (arith, ap (λ (us : List Op). length us) same)))
+      (λ _ x.
+      let from = then-rest _ _ x in
+      let (us, come, whole) = more-first (opOfNumbers ns) _ (then-rest _ _ from) in
+      one j (omega (arith, ap (λ (vs : List Op). length vs) whole)) (range-passed _ at (then-first _ _ from .1)) (ops-fine (drop 6 ns) left (at + 21) us come))
     where
-      same : (j : ℕ) → opAmong (drop 6 ns) j ≡ opAmong ns (suc j)
-      same j =
-          let place : 6 + 6 * j ≡ 6 * suc j = omega arith in
-          ap opOfNumbers (drop-drop (6 * j) 6 ns ∙ ap (λ (i : ℕ). drop i ns) place)
+      one : (j : ℕ) {n : ℕ} → j < suc n → opWrong T (opOfNumbers ns) ≡ 0 → ((i : ℕ) → i < n → opWrong T (opAmong (drop 6 ns) i) ≡ 0) → opWrong T (opAmong ns j) ≡ 0
+      one zero h first rest = first
+      one (suc i) h first rest = ap (opWrong T) (sym (after-op ns i)) ∙ rest i (omega arith)
 
 -- ---- what stands before the operations, and an operation
 
-module _ (H : Table) (step : ℕ → Op) {a b : ℕ} where
-  len-blames : ranged (lenWrong (H .len)) 0 ≡ refused RANGE a b → Blames H step a b
+module _ (H : Table) (step : ℕ → Op) (Behind : ℕ → Decider → Type 0) {a b : ℕ} where
+  len-blames : ranged (lenWrong (H .len)) 0 ≡ refused RANGE a b → Blames H step Behind a b
   unfolding lenWrong
   len-blames e = let (place, names) = ranged-names (lenRanges (H .len)) 0 e in length-wrong place names
 
-  counts-blames : lenWrong (H .len) ≡ 0 → ranged (countsWrong (H .boards) (H .cells) (H .modes)) 5 ≡ refused RANGE a b → Blames H step a b
+  counts-blames : lenWrong (H .len) ≡ 0 → ranged (countsWrong (H .boards) (H .cells) (H .modes)) 5 ≡ refused RANGE a b → Blames H step Behind a b
   unfolding countsWrong
   counts-blames len e = let (place, names) = ranged-names (countRanges (H .boards) (H .cells) (H .modes)) 5 e in count-wrong len place names
 
   module _ (len : lenWrong (H .len) ≡ 0) (counts : countsWrong (H .boards) (H .cells) (H .modes) ≡ 0) where
-    sets-blames : ranged (setsWrong (H .modes) (H .first ∷ H .follow)) 11 ≡ refused RANGE a b → Blames H step a b
+    sets-blames : ranged (setsWrong (H .modes) (H .first ∷ H .follow)) 11 ≡ refused RANGE a b → Blames H step Behind a b
     unfolding setsWrong
     sets-blames e = let (place, names) = ranged-names (setRanges (H .modes) (H .first ∷ H .follow)) 11 e in set-wrong len counts place names
 
-    step-blames : setsWrong (H .modes) (H .first ∷ H .follow) ≡ 0 → FirstRange (opWrong H) step 21 32 (opsPlace (H .modes)) a b → Blames H step a b
+    step-blames : setsWrong (H .modes) (H .first ∷ H .follow) ≡ 0 → FirstRange (opWrong H) step 21 32 (opsPlace (H .modes)) a b → Blames H step Behind a b
     unfolding opWrong
     step-blames sets x =
         let (place, names) = ranged-names (opRanges H (step (x .which))) (opsPlace (H .modes) + 21 * x .which) (x .here) in
         step-wrong len counts sets (x .which) (x .few) (x .before) place names
 
+    decider-blames : setsWrong (H .modes) (H .first ∷ H .follow) ≡ 0 → (n at : ℕ) → n ≤ 32 → ((j : ℕ) → j < n → opWrong H (step j) ≡ 0)
+        → at ≡ opsPlace (H .modes) + 21 * n → (who : Decider) → Behind n who → ranged (deciderWrong n who) at ≡ refused RANGE a b → Blames H step Behind a b
+    unfolding deciderWrong
+    decider-blames sets n at few fine place who is e =
+        let (here, names) = ranged-names (deciderRanges n who) at e in
+        decider-wrong len counts sets n few fine (here ∙ place) who is names
+
 -- ---- a table's bytes
 
+-- in the operations that are accepted no number is wrong
+steps-fine : (s : List ℕ) (os : List Op) → opsFrom (headOf s) s 32 (opsPlace (headOf s .modes)) ≡ accepted os
+    → (j : ℕ) → j < length os → opWrong (headOf s) (stepAt s j) ≡ 0
+unfolding opsFrom
+steps-fine s os come j h =
+    let H = headOf s in
+    let place : opsPlace (H .modes) + j * 21 ≡ opsPlace (H .modes) + 21 * j = omega arith in
+    ap (λ (k : ℕ). opWrong H (opAt s k)) (sym place)
+    ∙ ap (opWrong H) (sym (fields-values (opsDone H) 4 18 (opWrong H) opAt s noOp 32 _ os come j h))
+    ∙ ops-passing s H _ os come .each j h
+
 module _ (s : List ℕ) {a b : ℕ} where
-  head-blames : headTest s ≡ refused RANGE a b → Blames (headOf s) (stepAt s) a b
+  head-blames : headTest s ≡ refused RANGE a b → Blames (headOf s) (stepAt s) (FieldBehind s) a b
   head-blames e =
       then-refused _ _ (sym (head-row s) ∙ e)
-      (λ h. len-blames (headOf s) (stepAt s) (field-blames s 0 1 2 _ h))
+      (λ h. len-blames (headOf s) (stepAt s) (FieldBehind s) (field-blames s 0 1 2 _ h))
       (λ _ h1 e1.
       let len = field-passed s 0 1 2 _ h1 .1 in
       then-refused _ _ e1
-      (λ h. counts-blames (headOf s) (stepAt s) len (field-blames s 5 2 3 _ h))
+      (λ h. counts-blames (headOf s) (stepAt s) (FieldBehind s) len (field-blames s 5 2 3 _ h))
       (λ _ h2 e2.
       then-refused _ _ e2
-      (λ h. sets-blames (headOf s) (stepAt s) len (field-passed s 5 2 3 _ h2 .1) (field-blames s 11 3 _ _ h))
+      (λ h. sets-blames (headOf s) (stepAt s) (FieldBehind s) len (field-passed s 5 2 3 _ h2 .1) (field-blames s 11 3 _ _ h))
       (λ _ _ e3. absurd (needed-other s (opsPlace (headOf s .modes)) a b e3))))
 
+  -- who decides, behind the operations
+  behind-blames : HeadOk (headOf s) → (os : List Op)
+      → opsFrom (headOf s) s 32 (opsPlace (headOf s .modes)) ≡ accepted os
+      → judgeBehind s (withOps (headOf s) os) ≡ refused RANGE a b → Blames (headOf s) (stepAt s) (FieldBehind s) a b
+  behind-blames ok os come e =
+      let H = headOf s in
+      let T = withOps H os in
+      let at = opsEnd T in
+      then-refused _ _ (sym (behind-row s T) ∙ e)
+      (λ r.
+      both (leb (length s) at) (sym (decider-row s at (nops T)) ∙ r)
+      (λ _ x. never-refused {x = tt} (sym x))
+      (λ b x.
+      then-refused _ _ x
+      (λ f.
+      let who : deciderAt s at ≡ decides (num8 s (at + 3)) = rw b in
+      decider-blames H (stepAt s) (FieldBehind s) (ok .len) (ok .counts) (ok .sets) (length os) at (ops-passing s H _ os come .few) (steps-fine s os come) refl
+      (deciderAt s at) (field-tag s at 5 1 _ f, who) (field-blames s at 5 1 _ f))
+      (λ _ _ n. absurd (nothing-other s (at + 4) a _ n))))
+      (λ _ _ w. absurd (whole-other (withDecider T (deciderAt s at)) a _ w))
+
   -- "the offset of the first byte of the first wrong number, in layout order"
-  pub judge-blames : judge s ≡ refused RANGE a b → Blames (headOf s) (stepAt s) a b
+  pub judge-blames : judge s ≡ refused RANGE a b → Blames (headOf s) (stepAt s) (FieldBehind s) a b
   unfolding opsFrom
   judge-blames e =
       then-refused _ _ (sym (judge-row s) ∙ e)
@@ -245,35 +317,41 @@ module _ (s : List ℕ) {a b : ℕ} where
       (λ _ h e1.
       let ok = head-ok s h .0 in
       onwards-refused _ _ e1
-      (λ r. step-blames (headOf s) (stepAt s) (ok .len) (ok .counts) (ok .sets) (fields-blames 4 18 (opWrong (headOf s)) opAt s 32 _ r))
-      (λ os _ r. absurd (whole-other (withOps (headOf s) os) a b r)))
+      (λ r. step-blames (headOf s) (stepAt s) (FieldBehind s) (ok .len) (ok .counts) (ok .sets) (fields-blames (opsDone (headOf s)) 4 18 (opWrong (headOf s)) opAt s 32 _ r))
+      (behind-blames ok))
 
 -- ---- a table handed over as numbers
 
 module _ (N : Numbers) {a b : ℕ} where
-  first-blames : numbersTest N ≡ refused RANGE a b → Blames (headOfNumbers N) (opAmong (N .ops)) a b
+  first-blames : numbersTest N ≡ refused RANGE a b → Blames (headOfNumbers N) (opAmong (N .ops)) (HandedBehind N) a b
   first-blames e =
       then-refused _ _ (sym (numbers-row N) ∙ e)
-      (len-blames (headOfNumbers N) (opAmong (N .ops)))
+      (len-blames (headOfNumbers N) (opAmong (N .ops)) (HandedBehind N))
       (λ _ h1 e1.
       let len = range-passed _ 0 h1 in
       then-refused _ _ e1
-      (counts-blames (headOfNumbers N) (opAmong (N .ops)) len)
+      (counts-blames (headOfNumbers N) (opAmong (N .ops)) (HandedBehind N) len)
       (λ _ h2 e2.
       let (_, _, e3) = behind _ _ (other-if (not (eqb (length (N .follow)) (N .modes))) SIZE 11 0 (λ h. omega arith)) e2 in
       then-refused _ _ e3
-      (sets-blames (headOfNumbers N) (opAmong (N .ops)) len (range-passed _ 5 h2))
+      (sets-blames (headOfNumbers N) (opAmong (N .ops)) (HandedBehind N) len (range-passed _ 5 h2))
       (λ _ _ e4. absurd (other-if (eqb (length (N .ops)) 0) ORDER (opsPlace (N .modes)) 0 (λ h. omega arith) a b e4))))
 
-  pub numbers-blames : judgeNumbers N ≡ refused RANGE a b → Blames (headOfNumbers N) (opAmong (N .ops)) a b
+  pub numbers-blames : judgeNumbers N ≡ refused RANGE a b → Blames (headOfNumbers N) (opAmong (N .ops)) (HandedBehind N) a b
   numbers-blames e =
       then-refused _ _ (sym (judgeNumbers-row N) ∙ e)
       first-blames
       (λ _ h e1.
       let ok = numbers-ok N h .0 in
       onwards-refused _ _ e1
-      (λ r. step-blames (headOfNumbers N) (opAmong (N .ops)) (ok .len) (ok .counts) (ok .sets) (ops-blames (headOfNumbers N) (N .ops) 32 _ r))
-      (λ os _ r. absurd (whole-other (withOps (headOfNumbers N) os) a b r)))
+      (λ r. step-blames (headOfNumbers N) (opAmong (N .ops)) (HandedBehind N) (ok .len) (ok .counts) (ok .sets) (ops-blames (headOfNumbers N) (N .ops) 32 _ r))
+      (λ os come r.
+      let T = withOps (headOfNumbers N) os in
+      let (passing, six) = numbers-passing (headOfNumbers N) (N .ops) 32 _ os come in
+      then-refused _ _ (sym (judgeDecider-row (deciderOf N) T) ∙ r)
+      (decider-blames (headOfNumbers N) (opAmong (N .ops)) (HandedBehind N) (ok .len) (ok .counts) (ok .sets) (length os) (opsEnd T) (passing .few)
+      (ops-fine (headOfNumbers N) (N .ops) 32 _ os come) refl (deciderOf N) (six, refl))
+      (λ _ _ w. absurd (whole-other (withDecider T (deciderOf N)) a b w))))
 
 -- ---- a reply's bytes
 
@@ -285,7 +363,7 @@ module _ (s : List ℕ) {a b : ℕ} where
   rows-blame : lenWrong (num16 s 3) ≡ 0 → rowsFrom (ticks (num16 s 3)) s 32 5 ≡ refused RANGE a b → ReplyBlames (ticks (num16 s 3)) (rowThere s) a b
   unfolding rowsFrom rowWrong
   rows-blame len e =
-      let x = fields-blames 18 4 (rowWrong (ticks (num16 s 3))) rowAt s 32 5 e in
+      let x = fields-blames atEnd 18 4 (rowWrong (ticks (num16 s 3))) rowAt s 32 5 e in
       let (place, names) = ranged-names (rowRanges (ticks (num16 s 3)) (rowThere s (x .which))) (5 + 7 * x .which) (x .here) in
       row-wrong len (x .which) (x .few) (x .before) place names
 
@@ -339,6 +417,10 @@ module _ (s : List ℕ) where
     ),
   )
 
+  pub decider-read : (n at : ℕ) → ReadFrom s (at + 3) (deciderRanges n (decides (num8 s (at + 3))))
+  unfolding ReadFrom
+  decider-read n at = (refl, tt)
+
   pub row-read : (q : Ticks) (at : ℕ) → ReadFrom s (at + 3) (rowRanges q (rowAt s at))
   unfolding ReadFrom
   row-read q at = (refl, (ap (num16 s) (omega arith), tt))
@@ -366,12 +448,13 @@ module _ (s : List ℕ) where
       go zero e wrong = clash-bool (lt-ltb (opAt s at .start) 65536 (omega (arith, bytes (at + 3), bytes (at + 3 + 1)))) wrong
       go (suc k) e wrong = omega arith
 
-  unblamed : ((i : ℕ) → getD s i 0 < 256) → {a b : ℕ} → 11 < a → Blames (headOf s) (stepAt s) a b → a + 5 ≤ b
+  unblamed : ((i : ℕ) → getD s i 0 < 256) → {a b : ℕ} → 11 < a → Blames (headOf s) (stepAt s) (FieldBehind s) a b → (a + 5 ≤ b) ⊎ (num8 s a ≡ 5)
   unblamed bytes far (length-wrong e x) = absurd (omega arith)
   unblamed bytes far (count-wrong _ e x) = absurd (omega arith)
   unblamed bytes far (set-wrong _ _ e x) = absurd (omega arith)
-  unblamed bytes {a} {b} far (step-wrong _ _ _ k _ _ e x) = starts-fit bytes (headOf s) (opsPlace (headOf s .modes) + 21 * k) a b x
+  unblamed bytes {a} {b} far (step-wrong _ _ _ k _ _ e x) = inl (starts-fit bytes (headOf s) (opsPlace (headOf s .modes) + 21 * k) a b x)
+  unblamed bytes {a} {b} far (decider-wrong _ _ _ n _ _ e who is x) = inr (ap (num8 s) e ∙ is .0)
 
-  -- behind field 03, which is at 11, stand the operations
-  pub no-start-blamed : ((i : ℕ) → getD s i 0 < 256) → {a b : ℕ} → judge s ≡ refused RANGE a b → 11 < a → a + 5 ≤ b
+  -- behind field 03, which is at 11, stand the operations, and last the decider's field
+  pub no-start-blamed : ((i : ℕ) → getD s i 0 < 256) → {a b : ℕ} → judge s ≡ refused RANGE a b → 11 < a → (a + 5 ≤ b) ⊎ (num8 s a ≡ 5)
   no-start-blamed bytes e far = unblamed bytes far (judge-blames s e)

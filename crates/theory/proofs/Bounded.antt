@@ -1,5 +1,5 @@
--- The figures of a refusal of a table's bytes, of a table handed over as numbers and of a reply's bytes: its number is 1 to 9, and a and b
--- are places up to 821 or numbers of operations.
+-- The figures of a refusal of a table's bytes, of a table handed over as numbers and of a reply's bytes: its number is 1 to 10, and a and b
+-- are places up to 825 or numbers of operations.
 -- Assumes nothing.
 use Prim.Native.Nat.{ℕ, zero, suc, _+_, _-_, _*_, _<_, _≤_}
 use mathlib.Core.Path.{_≡_, refl, subst}
@@ -9,24 +9,24 @@ use native.Mathlib.Omega.{arith}
 use lib.Dec.{leb, ltb, eqb}
 use lib.ListN.{length, drop}
 use borrow.Author.Tests.{eqb-true, eqb-false, not-false}
-use Rattle.rules.specs.Table.{Op, Table, nops, op, noOp}
-use Rattle.rules.specs.Verdicts.{Verdict, accepted, refused, SHORT, ORDER, SIZE, RANGE, MANY, CLASH, RACE, Test, refuseIf, _then_, onwards, more, each}
+use Rattle.rules.specs.Table.{Op, Decider, nobody, decides, Table, nops, op}
+use Rattle.rules.specs.Verdicts.{Verdict, accepted, refused, SHORT, ORDER, SIZE, RANGE, MANY, CLASH, RACE, EARLY, Test, refuseIf, _then_, onwards, more, each}
 use Rattle.rules.specs.Rows.{ticks}
 use Rattle.rules.specs.Bytes.{num8, num16, opAt, rowAt, farthest}
-use Rattle.rules.specs.Judge.{needed, header, due, sized, complete, ranged, notMany, fieldTest, repeatTest, fieldsFrom, lenWrong, countsWrong, setsWrong, opWrong, clashes, races, pairsTest, judgeWhole, headOf, withOps, opsPlace, headTest, opsFrom, judge, Numbers, opOfNumbers, headOfNumbers, numbersTest, opsOfNumbers, judgeNumbers, rowWrong, rowsFrom, judgeReply}
+use Rattle.rules.specs.Judge.{needed, header, due, sized, complete, ranged, notMany, fieldTest, repeatTest, atEnd, fieldsFrom, lenWrong, countsWrong, setsWrong, opWrong, deciderWrong, clashes, races, pairsTest, always, early, earlyTest, judgeWhole, headOf, withOps, withDecider, opsPlace, opsEnd, headTest, opsDone, opsFrom, nothingDue, deciderAt, deciderTest, judgeBehind, judge, Numbers, opOfNumbers, headOfNumbers, deciderOf, numbersTest, opsOfNumbers, judgeNumbers, rowWrong, rowsFrom, judgeReply}
 use Rattle.theory.proofs.Verdicts.{passed}
-use Rattle.theory.proofs.Ranges.{len-within, counts-within, sets-within, op-within, row-within, range-passed}
-use Rattle.theory.proofs.Judging.{field-row, repeat-row, fields-end, fields-next, fields-passing, field-passed, whole-row, head-row, head-ok, judge-row, numbers-end, numbers-next, numbers-passing, numbers-row, judgeNumbers-row, numbers-ok, length-words}
+use Rattle.theory.proofs.Ranges.{len-within, counts-within, sets-within, op-within, decider-within, row-within, range-passed}
+use Rattle.theory.proofs.Judging.{field-row, repeat-row, fields-end, fields-next, field-passed, says-decider, whole-row, head-row, head-ok, judge-row, behind-row, decider-row, nothing-row, ops-passing, ops-ended, decider-passed, numbers-end, numbers-next, numbers-passing, numbers-row, judgeDecider-row, judgeNumbers-row, numbers-ok, length-words}
 use Rattle.theory.proofs.Lengths.{modes-few}
 use Rattle.theory.proofs.Replies.{reply-row}
 
 pub record Small (n a b : ℕ) : Type 0 where
   pub low : 1 ≤ n
-  pub high : n ≤ 9
+  pub high : n ≤ 10
   pub first : a ≤ farthest
   pub second : b ≤ farthest
 
--- v is no refusal, or one of document 01's numbers with figures of at most 821
+-- v is no refusal, or one of the documents' numbers with figures of at most 825
 unfoldable pub Bounded : {A : Type 0} → Verdict A → Type 0
 Bounded (accepted x) = Unit {0}
 Bounded (refused n a b) = Small n a b
@@ -53,6 +53,10 @@ bounded-accepted : {A : Type 0} (x : A) → Bounded (accepted x)
 unfolding Bounded
 bounded-accepted x = tt
 
+bounded-refused : (n a b : ℕ) → Small n a b → Bounded {A = Unit {0}} (refused n a b)
+unfolding Bounded
+bounded-refused n a b h = h
+
 bounded-more : {A : Type 0} (x : A) (v : Verdict (List A)) → Bounded v → Bounded (more x v)
 unfolding Bounded more
 bounded-more x (accepted xs) h = tt
@@ -70,7 +74,7 @@ bounded-each f i (suc n) h = bounded-then (f i) (each f (suc i) n) (h i (omega a
 -- ---- fields: the figure is the field's place
 
 module _ (at : ℕ) (h : at ≤ farthest) where
-  place-bounded : (fault : Bool) (n : ℕ) → 1 ≤ n → n ≤ 9 → Bounded (refuseIf fault n at 0)
+  place-bounded : (fault : Bool) (n : ℕ) → 1 ≤ n → n ≤ 10 → Bounded (refuseIf fault n at 0)
   place-bounded fault n low high = bounded-if fault n at 0 (record { low = low; high = high; first = h; second = omega arith })
 
   many-bounded : (left : ℕ) → Bounded (notMany at left)
@@ -121,22 +125,22 @@ module _ (s : List ℕ) (at : ℕ) (h : at ≤ farthest) where
         (λ _ _. bounded-then _ _ (due-bounded tag)
         (λ _ _. bounded-then _ _ (many-bounded at h left) (λ _ e. value-bounded (g (omega (arith, eqb-false left 0 (passed _ MANY at 0 e))))))))
 
-module _ {A : Type 0} (tag size : ℕ) (wrong : A → ℕ) (value : List ℕ → ℕ → A) (s : List ℕ) (within : (x : A) → wrong x ≤ 3 + size) where
+module _ {A : Type 0} (ends : List ℕ → ℕ → Bool) (tag size : ℕ) (wrong : A → ℕ) (value : List ℕ → ℕ → A) (s : List ℕ) (within : (x : A) → wrong x ≤ 3 + size) where
   -- one field, and what comes behind it
   next-bounded : (left at : ℕ) (rest : Verdict (List A)) → at ≤ farthest → (0 < left → at + (3 + size) ≤ farthest) → Bounded rest
-      → Bounded (cond (leb (length s) at) (accepted []) (repeatTest s at left tag size (wrong (value s at)) then rest))
+      → Bounded (cond (ends s at) (accepted []) (repeatTest s at left tag size (wrong (value s at)) then rest))
   next-bounded left at rest h k g =
-      bounded-cond (leb (length s) at) (accepted []) (repeatTest s at left tag size (wrong (value s at)) then rest) (bounded-accepted [])
+      bounded-cond (ends s at) (accepted []) (repeatTest s at left tag size (wrong (value s at)) then rest) (bounded-accepted [])
       (bounded-then _ rest
       (repeat-bounded s at h tag size (wrong (value s at)) left (λ m. omega (arith, k m, within (value s at))))
       (λ _ _. g))
 
-  fields-bounded : (left at : ℕ) → at + left * (3 + size) ≤ farthest → Bounded (fieldsFrom tag size wrong value s left at)
+  fields-bounded : (left at : ℕ) → at + left * (3 + size) ≤ farthest → Bounded (fieldsFrom ends tag size wrong value s left at)
   fields-bounded zero at h =
-      rw (fields-end tag size wrong value s at) (next-bounded 0 at (accepted []) (omega arith) (λ m. absurd (omega arith)) (bounded-accepted []))
+      rw (fields-end ends tag size wrong value s at) (next-bounded 0 at (accepted []) (omega arith) (λ m. absurd (omega arith)) (bounded-accepted []))
   fields-bounded (suc left) at h =
-      rw (fields-next tag size wrong value s left at)
-      (next-bounded (suc left) at (more (value s at) (fieldsFrom tag size wrong value s left (at + 3 + size))) (omega arith) (λ m. omega arith)
+      rw (fields-next ends tag size wrong value s left at)
+      (next-bounded (suc left) at (more (value s at) (fieldsFrom ends tag size wrong value s left (at + 3 + size))) (omega arith) (λ m. omega arith)
       (bounded-more (value s at) _ (fields-bounded left (at + 3 + size) (omega arith))))
 
 -- ---- CLASH and RACE: the figures are numbers of operations
@@ -145,16 +149,30 @@ module _ {A : Type 0} (tag size : ℕ) (wrong : A → ℕ) (value : List ℕ →
 abbrev pair : (Op → Op → Bool) → ℕ → Table → ℕ → ℕ → Test
 pair hit n T i j = refuseIf (hit (op T i) (op T j)) n i j
 
-pairs-bounded : (hit : Op → Op → Bool) (n : ℕ) (T : Table) → 1 ≤ n → n ≤ 9 → nops T ≤ 32 → Bounded (pairsTest hit n T)
+pairs-bounded : (hit : Op → Op → Bool) (n : ℕ) (T : Table) → 1 ≤ n → n ≤ 10 → nops T ≤ 32 → Bounded (pairsTest hit n T)
 unfolding pairsTest
 pairs-bounded hit n T low high few =
     bounded-each (λ i. each (pair hit n T i) (suc i) (nops T - suc i)) 0 (nops T)
     (λ i _ b. bounded-each (pair hit n T i) (suc i) (nops T - suc i) (λ j _ d. bounded-if (hit (op T i) (op T j)) n i j (record { low = low; high = high; first = omega arith; second = omega arith })))
 
-whole-bounded : (T : Table) → nops T ≤ 32 → Bounded (judgeWhole T)
-whole-bounded T few =
+-- EARLY: so are these, where the decider is one of them
+early-bounded : (T : Table) (who : Decider) → nops T ≤ 32 → ((d : ℕ) → who ≡ decides d → d < nops T) → Bounded (earlyTest T who)
+unfolding earlyTest
+early-bounded T nobody few there = bounded-accepted tt
+early-bounded T (decides d) few there =
+    let low = there d refl in
+    bounded-then (refuseIf (not (always T (op T d))) EARLY d d) (each (λ i. refuseIf (early T (op T d) (op T i)) EARLY d i) 0 (nops T))
+    (bounded-if (not (always T (op T d))) EARLY d d (record { low = omega arith; high = omega arith; first = omega arith; second = omega arith }))
+    (λ _ _.
+    bounded-each (λ i. refuseIf (early T (op T d) (op T i)) EARLY d i) 0 (nops T)
+    (λ i _ h. bounded-if (early T (op T d) (op T i)) EARLY d i (record { low = omega arith; high = omega arith; first = omega arith; second = omega arith })))
+
+whole-bounded : (T : Table) → nops T ≤ 32 → deciderWrong (nops T) (T .decider) ≡ 0 → Bounded (judgeWhole T)
+whole-bounded T few decider =
     rw (whole-row T)
-    (bounded-then _ _ (pairs-bounded clashes CLASH T (omega arith) (omega arith) few) (λ _ _. bounded-then _ _ (pairs-bounded races RACE T (omega arith) (omega arith) few) (λ _ _. bounded-accepted T)))
+    (bounded-then _ _ (pairs-bounded clashes CLASH T (omega arith) (omega arith) few)
+    (λ _ _. bounded-then _ _ (pairs-bounded races RACE T (omega arith) (omega arith) few)
+    (λ _ _. bounded-then _ _ (early-bounded T (T .decider) few (says-decider (nops T) (T .decider) .0 decider)) (λ _ _. bounded-accepted T))))
 
 -- ---- a table's bytes
 
@@ -174,6 +192,26 @@ module _ (s : List ℕ) where
       let sets = sets-within (headOf s .modes) (headOf s .first ∷ headOf s .follow) refl in
       bounded-then _ _ (field-bounded s 11 (omega arith) 3 _ _ (omega (arith, sets, words))) (λ _ _. needed-bounded s (opsPlace (headOf s .modes)) (omega arith)))))
 
+  nothing-bounded : (at : ℕ) → at ≤ farthest → Bounded (nothingDue s at)
+  nothing-bounded at h =
+      rw (nothing-row s at)
+      (bounded-cond (leb (length s) at) (accepted (tt {0})) (header s at then refused ORDER at 0) (bounded-accepted (tt {0}))
+      (bounded-then (header s at) (refused ORDER at 0) (header-bounded s at h)
+      (λ _ _. bounded-refused ORDER at 0 (record { low = omega arith; high = omega arith; first = h; second = omega arith }))))
+
+  decider-bounded : (at n : ℕ) → at + 4 ≤ farthest → Bounded (deciderTest s at n)
+  decider-bounded at n h =
+      rw (decider-row s at n)
+      (bounded-cond (leb (length s) at) (accepted tt) (fieldTest s at 5 1 (deciderWrong n (deciderAt s at)) then nothingDue s (at + 4)) (bounded-accepted tt)
+      (bounded-then _ _ (field-bounded s at (omega arith) 5 1 _ (omega (arith, decider-within n (deciderAt s at) refl)))
+      (λ _ _. nothing-bounded (at + 4) h)))
+
+  behind-bounded : (T : Table) → nops T ≤ 32 → opsEnd T ≤ length s → opsEnd T + 4 ≤ farthest → Bounded (judgeBehind s T)
+  behind-bounded T few inside h =
+      rw (behind-row s T)
+      (bounded-then _ _ (decider-bounded (opsEnd T) (nops T) h)
+      (λ _ e. whole-bounded (withDecider T (deciderAt s (opsEnd T))) few (decider-passed s (opsEnd T) (nops T) e inside .0)))
+
   pub judge-bounded : Bounded (judge s)
   unfolding opsFrom
   judge-bounded =
@@ -181,8 +219,12 @@ module _ (s : List ℕ) where
       (bounded-then _ _ head-bounded
       (λ _ e.
       let few = modes-few (headOf s) (head-ok s e .0 .counts) in
-      bounded-onwards _ _ (fields-bounded 4 18 (opWrong (headOf s)) opAt s (λ o. op-within (headOf s) o refl) 32 (opsPlace (headOf s .modes)) (omega arith))
-      (λ os come. whole-bounded (withOps (headOf s) os) (fields-passing 4 18 (opWrong (headOf s)) opAt s noOp 32 _ os come .few))))
+      let H = headOf s in
+      bounded-onwards _ _ (fields-bounded (opsDone H) 4 18 (opWrong H) opAt s (λ o. op-within H o refl) 32 (opsPlace (H .modes)) (omega arith))
+      (λ os come.
+      let less = ops-passing s H _ os come .few in
+      let inside = ops-ended s H _ os come .inside (omega (arith, head-ok s e .1)) in
+      behind-bounded (withOps H os) less (omega arith) (omega arith))))
 
 -- ---- a table handed over as numbers
 
@@ -221,7 +263,12 @@ module _ (N : Numbers) where
       (λ _ e.
       let few = modes-few (headOfNumbers N) (numbers-ok N e .0 .counts) in
       bounded-onwards _ _ (ops-bounded (headOfNumbers N) (N .ops) 32 (opsPlace (N .modes)) (omega arith))
-      (λ os come. whole-bounded (withOps (headOfNumbers N) os) (numbers-passing _ (N .ops) 32 _ os come .few))))
+      (λ os come.
+      let T = withOps (headOfNumbers N) os in
+      let less = numbers-passing _ (N .ops) 32 _ os come .0 .few in
+      rw (judgeDecider-row (deciderOf N) T)
+      (bounded-then _ _ (ranged-bounded (deciderWrong (nops T) (deciderOf N)) (opsEnd T) (omega (arith, decider-within (nops T) (deciderOf N) refl)))
+      (λ _ f. whole-bounded (withDecider T (deciderOf N)) less (range-passed _ (opsEnd T) f))))))
 
 -- ---- a reply's bytes
 
@@ -230,7 +277,7 @@ unfolding rowsFrom
 reply-bounded s =
     rw (reply-row s)
     (bounded-then _ _ (bounded-then _ _ (field-bounded s 0 (omega arith) 17 2 _ (omega (arith, len-within (num16 s 3) refl))) (λ _ _. needed-bounded s 5 (omega arith)))
-    (λ _ _. bounded-onwards _ _ (fields-bounded 18 4 (rowWrong (ticks (num16 s 3))) rowAt s (λ r. row-within (ticks (num16 s 3)) r refl) 32 5 (omega arith)) (λ rs _. bounded-accepted _)))
+    (λ _ _. bounded-onwards _ _ (fields-bounded atEnd 18 4 (rowWrong (ticks (num16 s 3))) rowAt s (λ r. row-within (ticks (num16 s 3)) r refl) 32 5 (omega arith)) (λ rs _. bounded-accepted _)))
 
 -- a refusal of a table's bytes
 pub figures-small : (s : List ℕ) (n a b : ℕ) → judge s ≡ refused n a b → Small n a b

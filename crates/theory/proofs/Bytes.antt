@@ -1,22 +1,24 @@
 -- What is written is read back: numbers, operations, and fields one after the other; and how long the bytes are.
 -- Assumes nothing.
 use Prim.Native.Nat.{ℕ, zero, suc, _+_, _*_, _/_, _%_, _^_, _<_, _≤_}
-use mathlib.Core.Path.{_≡_, refl, _∙_}
+use mathlib.Core.Path.{_≡_, refl, sym, ap, _∙_}
+use mathlib.Core.Bool.{Bool, true, false, cond}
 use mathlib.Core.List.{List, [], _∷_, _++_, append-assoc}
 use native.Mathlib.Nat.{div-div-eq-div-mul}
 use native.Mathlib.Omega.{arith}
-use lib.Dec.{eqb·suc-zero}
+use lib.Dec.{leb, eqb·suc-zero}
 use lib.ListN.{length, getD, length-append, length-map}
 use lib.Seq.{getD-append-add}
 use borrow.Author.Tests.{le-leb, lt-leb, le-ltb, eq-eqb, ne-eqb}
-use Rattle.rules.specs.Table.{Op, Table, nops}
+use Rattle.rules.specs.Table.{Op, Decider, nobody, decides, Table, nops}
 use Rattle.rules.specs.Rows.{Reply, replyOf}
-use Rattle.rules.specs.Verdicts.{Verdict, accepted, refused, SIZE, MANY, _then_, more}
-use Rattle.rules.specs.Bytes.{num8, num16, num32, words, be32, joined, opBytes, headBytes, opAt, tableBytes, rowBytes, replyBytes}
-use Rattle.rules.specs.Judge.{notMany, ranged, fieldTest, repeatTest, fieldsFrom}
+use Rattle.rules.specs.Verdicts.{Verdict, accepted, refused, ORDER, SIZE, MANY, Test, _then_, more}
+use Rattle.rules.specs.Bytes.{num8, num16, num32, words, be32, joined, opBytes, headBytes, deciderBytes, opAt, tableBytes, rowBytes, replyBytes}
+use Rattle.rules.specs.Judge.{notMany, ranged, fieldTest, repeatTest, atEnd, fieldsFrom, deciderWrong, nothingDue, deciderAt, deciderTest}
 use Rattle.theory.specs.Numbers.{OpFits}
 use Rattle.theory.proofs.Ranges.{ranged-yes}
-use Rattle.theory.proofs.Verdicts.{passes, then-accepts, more-accepts}
+use Rattle.theory.proofs.Verdicts.{passes, then-accepts, then-none, more-accepts}
+use Rattle.theory.proofs.Judging.{decider-row, nothing-row, says-decider}
 
 -- ---- numbers in bytes
 
@@ -88,9 +90,17 @@ ops-length = joined-length opBytes 21 (λ o. refl)
 pub head-length : (T : Table) → length (headBytes T) ≡ 18 + 4 * length (T .follow)
 head-length T = omega (arith, words-length (T .follow))
 
-pub table-length : (T : Table) → length (tableBytes T) ≡ 18 + 4 * length (T .follow) + 21 * nops T
+pub table-length : (T : Table)
+    → length (tableBytes T) ≡ 18 + 4 * length (T .follow) + 21 * nops T + length (deciderBytes (T .decider))
 unfolding tableBytes
-table-length T = omega (arith, length-append (headBytes T) (joined opBytes (T .ops)), head-length T, ops-length (T .ops))
+table-length T =
+    omega (
+      arith,
+      length-append (headBytes T) (joined opBytes (T .ops) ++ deciderBytes (T .decider)),
+      length-append (joined opBytes (T .ops)) (deciderBytes (T .decider)),
+      head-length T,
+      ops-length (T .ops),
+    )
 
 pub reply-length : (R : Reply) → length (replyBytes R) ≡ 5 + 7 * length (R .rows)
 unfolding replyBytes
@@ -162,25 +172,63 @@ fields-accepted d size wrong (x ∷ xs) (suc left) at few h =
     then-accepts _ (ranged-yes (wrong x) at (h 0 (omega arith)))
     ∙ more-accepts x (fields-accepted d size wrong xs left (at + 3 + size) (omega arith) (λ i b. h (suc i) (omega arith)))
 
-module _ {A : Type 0} (tag size : ℕ) (wrong : A → ℕ) (value : List ℕ → ℕ → A) (s : List ℕ) (at : ℕ) where
-  -- none at the end of the input
-  pub no-field : (left : ℕ) → length s ≤ at → fieldsFrom tag size wrong value s left at ≡ accepted []
+module _ {A : Type 0} (ends : List ℕ → ℕ → Bool) (tag size : ℕ) (wrong : A → ℕ) (value : List ℕ → ℕ → A) (s : List ℕ) (at : ℕ) where
+  -- none where they end
+  pub no-field : (left : ℕ) → ends s at ≡ true → fieldsFrom ends tag size wrong value s left at ≡ accepted []
   unfolding fieldsFrom
-  no-field zero h = rw (le-leb (length s) at h)
-  no-field (suc left) h = rw (le-leb (length s) at h)
+  no-field zero h = rw h
+  no-field (suc left) h = rw h
 
   -- one whole field, where no more may come and where one may
-  module _ (t : num8 s at ≡ tag) (h : at + 3 + size ≤ length s) (z : num16 s (at + 1) ≡ size) where
-    pub field-many : fieldsFrom tag size wrong value s 0 at ≡ refused MANY at 0
+  module _ (on : ends s at ≡ false) (t : num8 s at ≡ tag) (h : at + 3 + size ≤ length s) (z : num16 s (at + 1) ≡ size) where
+    pub field-many : fieldsFrom ends tag size wrong value s 0 at ≡ refused MANY at 0
     unfolding fieldsFrom
-    field-many = simp (lt-leb (length s) at (omega arith), repeat-whole s at tag size (wrong (value s at)) t h z 0)
+    field-many = simp (on, repeat-whole s at tag size (wrong (value s at)) t h z 0)
 
     pub field-more : (left : ℕ)
-        → fieldsFrom tag size wrong value s (suc left) at
-        ≡ (ranged (wrong (value s at)) at then more (value s at) (fieldsFrom tag size wrong value s left (at + 3 + size)))
+        → fieldsFrom ends tag size wrong value s (suc left) at
+        ≡ (ranged (wrong (value s at)) at then more (value s at) (fieldsFrom ends tag size wrong value s left (at + 3 + size)))
     unfolding fieldsFrom
     field-more left =
-        simp (lt-leb (length s) at (omega arith), repeat-whole s at tag size (wrong (value s at)) t h z (suc left) ∙ then-accepts _ (spare at left))
+        simp (on, repeat-whole s at tag size (wrong (value s at)) t h z (suc left) ∙ then-accepts _ (spare at left))
+
+  -- a field with another tag
+  pub field-order : (left : ℕ) → ends s at ≡ false → at + 3 ≤ length s → (num8 s at ≡ tag → ⊥) → fieldsFrom ends tag size wrong value s (suc left) at ≡ refused ORDER at 0
+  unfolding fieldsFrom repeatTest
+  field-order left on h n = simp (on, le-ltb (length s) (at + 3) h, ne-eqb (num8 s at) tag n)
+
+-- ---- the decider's field, written behind some bytes
+
+module _ (pre : List ℕ) (at n : ℕ) (place : at ≡ length pre) where
+  -- where nobody decides the input ends
+  no-decider : leb (length (pre ++ [])) at ≡ true
+  no-decider = le-leb (length (pre ++ [])) at (omega (arith, length-append pre []))
+
+  a-decider : (d : ℕ) → leb (length (pre ++ (5 ∷ 0 ∷ 1 ∷ d ∷ []))) at ≡ false
+  a-decider d = lt-leb (length (pre ++ (5 ∷ 0 ∷ 1 ∷ d ∷ []))) at (omega (arith, length-append pre (5 ∷ 0 ∷ 1 ∷ d ∷ [])))
+
+  -- who decides is read back
+  pub decider-back : (who : Decider) → deciderAt (pre ++ deciderBytes who) at ≡ who
+  decider-back nobody = rw no-decider
+  decider-back (decides d) = rw (a-decider d) (ap decides (past8 pre (5 ∷ 0 ∷ 1 ∷ d ∷ []) (at + 3) 3 (omega arith)))
+
+  -- and the range is left to test
+  pub decider-tested : (who : Decider) → deciderTest (pre ++ deciderBytes who) at n ≡ ranged (deciderWrong n who) at
+  decider-tested nobody =
+      decider-row (pre ++ []) at n ∙ rw no-decider (sym (ranged-yes _ at (says-decider n nobody .1 (λ d e. let z : _≡_ {A = ℕ} 0 1 = cc in absurd (omega arith)))))
+  decider-tested (decides d) =
+      let s = pre ++ (5 ∷ 0 ∷ 1 ∷ d ∷ []) in
+      let long = length-append pre (5 ∷ 0 ∷ 1 ∷ d ∷ []) in
+      let wrong = deciderWrong n (deciderAt s at) in
+      let field : fieldTest s at 5 1 wrong ≡ ranged wrong at =
+      field-whole s at 5 1 wrong (past8 pre (5 ∷ 0 ∷ 1 ∷ d ∷ []) at 0 (omega arith)) (omega arith) (past16 pre (5 ∷ 0 ∷ 1 ∷ d ∷ []) (at + 1) 1 (omega arith))
+      in
+      let none : nothingDue s (at + 4) ≡ accepted tt = nothing-row s (at + 4) ∙ rw (le-leb (length s) (at + 4) (omega arith)) in
+      decider-row s at n
+      ∙ ap (λ (b : Bool). cond b (accepted tt) (fieldTest s at 5 1 wrong then nothingDue s (at + 4))) (a-decider d)
+      ∙ ap (λ (v : Test). v then nothingDue s (at + 4)) field
+      ∙ then-none (ranged wrong at) none
+      ∙ ap (λ (x : Decider). ranged (deciderWrong n x) at) (decider-back (decides d))
 
 -- how something is written in a field: with its tag, with its length, and so that it is read back where it fits
 pub record Repeated {A : Type 0} (tag size : ℕ) (value : List ℕ → ℕ → A) (bytes : A → List ℕ) (Fits : A → Type 0) : Type 0 where
@@ -199,24 +247,30 @@ module _ {A : Type 0} {tag size : ℕ} {value : List ℕ → ℕ → A} {bytes :
     pub first-whole : n + 3 + size ≤ length (pre ++ (bytes x ++ post))
     first-whole = omega (arith, length-append pre (bytes x ++ post), length-append (bytes x) post, is .width x)
 
+    pub first-there : leb (length (pre ++ (bytes x ++ post))) n ≡ false
+    first-there = lt-leb (length (pre ++ (bytes x ++ post))) n (omega (arith, first-whole))
+
     pub first-size : num16 (pre ++ (bytes x ++ post)) (n + 1) ≡ size
     first-size = past16 pre (bytes x ++ post) (n + 1) 1 (omega arith) ∙ is .sized x post
 
   -- fields that are written one after the other are judged by what is written in them
   pub fields-back : (d : A) (wrong : A → ℕ) (xs : List A) (pre : List ℕ) (left n : ℕ) → n ≡ length pre
       → ((i : ℕ) → i < length xs → Fits (getD xs i d))
-      → fieldsFrom tag size wrong value (pre ++ joined bytes xs) left n ≡ fieldsOf size wrong xs left n
+      → fieldsFrom atEnd tag size wrong value (pre ++ joined bytes xs) left n ≡ fieldsOf size wrong xs left n
   unfolding joined fieldsOf
-  fields-back d wrong [] pre left n place h = no-field tag size wrong value (pre ++ []) n left (omega (arith, length-append pre []))
+  fields-back d wrong [] pre left n place h =
+      no-field atEnd tag size wrong value (pre ++ []) n left (le-leb (length (pre ++ [])) n (omega (arith, length-append pre [])))
   fields-back d wrong (x ∷ xs) pre zero n place h =
       let rest = joined bytes xs in
-      field-many tag size wrong value _ n (first-tag x pre rest n place) (first-whole x pre rest n place) (first-size x pre rest n place)
+      field-many atEnd tag size wrong value _ n (first-there x pre rest n place) (first-tag x pre rest n place) (first-whole x pre rest n place)
+      (first-size x pre rest n place)
   fields-back d wrong (x ∷ xs) pre (suc left) n place h =
       let rest = joined bytes xs in
       let first = is .back x (h 0 (omega arith)) pre rest n place in
       let place′ : n + 3 + size ≡ length (pre ++ bytes x) = omega (arith, length-append pre (bytes x), is .width x) in
       let more = fields-back d wrong xs (pre ++ bytes x) left (n + 3 + size) place′ (λ i b. h (suc i) (omega arith)) in
-      field-more tag size wrong value _ n (first-tag x pre rest n place) (first-whole x pre rest n place) (first-size x pre rest n place) left
+      field-more atEnd tag size wrong value _ n (first-there x pre rest n place) (first-tag x pre rest n place) (first-whole x pre rest n place)
+      (first-size x pre rest n place) left
       ∙ rw (first, ← append-assoc, more)
 
 pub op-repeated : Repeated 4 18 opAt opBytes OpFits

@@ -5,16 +5,16 @@ use mathlib.Core.Path.{_≡_, refl, sym, ap, subst, _∙_}
 use mathlib.Core.List.{List, [], _∷_, _++_, append-assoc, append-nil}
 use native.Mathlib.Decide.{decLt}
 use native.Mathlib.Omega.{arith}
+use lib.Dec.{leb}
 use lib.ListN.{length, getD, drop, List·getD-eq-default}
 use lib.Seq.{drop-cons, drop-length}
 use borrow.Author.Tests.{leb-true, eqb-true, not-false}
 use Rattle.rules.specs.Table.{Op, Table}
 use Rattle.rules.specs.Verdicts.{accepted, ORDER, SIZE}
-use Rattle.rules.specs.Bytes.{num8, num16, num32, words, be16, be32, joined, opAt, opBytes, headBytes, tableBytes}
-use Rattle.rules.specs.Judge.{due, sized, fieldTest, repeatTest, fieldsFrom, opWrong, headOf, withOps, opsPlace, headTest, opsFrom, judge}
-use Rattle.theory.proofs.Says.{clash-bool}
-use Rattle.theory.proofs.Verdicts.{passed, then-first, then-rest, onwards-first, more-first}
-use Rattle.theory.proofs.Judging.{field-row, repeat-row, field-passed, repeat-passed, both, fields-end, fields-next, head-row, head-ok, judge-row, whole-accepted}
+use Rattle.rules.specs.Bytes.{num8, num16, num32, words, be16, be32, joined, opAt, opBytes, headBytes, deciderBytes, tableBytes}
+use Rattle.rules.specs.Judge.{due, sized, fieldTest, repeatTest, fieldsFrom, opWrong, headOf, withOps, withDecider, opsPlace, opsEnd, headTest, opsDone, opsFrom, deciderAt, deciderTest, judge}
+use Rattle.theory.proofs.Verdicts.{passed, then-first, then-rest}
+use Rattle.theory.proofs.Judging.{field-row, repeat-row, field-passed, repeat-passed, both, fields-all, head-row, head-ok, judge-row, decider-row, nothing-passed, parts-inside, judge-parts, whole-accepted}
 use Rattle.theory.proofs.Bytes.{words-length}
 
 module _ (s : List ℕ) (small : (i : ℕ) → i < length s → getD s i 0 < 256) where
@@ -121,27 +121,25 @@ module _ (s : List ℕ) (small : (i : ℕ) → i < length s → getD s i 0 < 256
       and-then four (at + 13) (at + 17) (omega arith) (omega arith)
       and-then four (at + 17) b (omega arith) (omega arith)
 
-  -- no operation, at the end
-  none-spelt : (at : ℕ) (os : List Op) → at ≡ length s → accepted [] ≡ accepted os → Spelt (joined opBytes os) at (length s)
+  -- the operations stand one after the other, up to where they end
+  ops-spelt : (H : Table) (left at : ℕ) (os : List Op) → fieldsFrom (opsDone H) 4 18 (opWrong H) opAt s left at ≡ accepted os
+      → (b : ℕ) → b ≡ at + 21 * length os → Spelt (joined opBytes os) at b
   unfolding joined
-  none-spelt at [] h e = nil at (length s) (sym h)
-  none-spelt at (o ∷ os) h e = let z : _≡_ {A = ℕ} 0 1 = cc in absurd (omega arith)
+  ops-spelt H =
+      fields-all (opsDone H) 4 18 (opWrong H) opAt s (λ left at os. (b : ℕ) → b ≡ at + 21 * length os → Spelt (joined opBytes os) at b)
+      (λ left at _ b e. nil at b (omega arith))
+      (λ left at os come rest b e.
+      op-spelt at (at + 3 + 18) (repeat-header at (suc left) 4 18 _ come) refl and-then rest b (omega arith))
 
-  -- the operations stand one after the other up to the end
-  ops-spelt : (H : Table) (left at : ℕ) (os : List Op) → fieldsFrom 4 18 (opWrong H) opAt s left at ≡ accepted os → at ≤ length s
-      → Spelt (joined opBytes os) at (length s)
-  unfolding joined
-  ops-spelt H zero at os e h =
-      both _ (sym (fields-end 4 18 (opWrong H) opAt s at) ∙ e)
-      (λ b x. none-spelt at os (omega (arith, leb-true (length s) at b)) x)
-      (λ b x. clash-bool refl (repeat-passed s at 4 18 _ 0 (then-first _ _ x .1) .0))
-  ops-spelt H (suc left) at os e h =
-      both _ (sym (fields-next 4 18 (opWrong H) opAt s left at) ∙ e)
-      (λ b x. none-spelt at os (omega (arith, leb-true (length s) at b)) x)
+  -- and behind them who decides, up to the end
+  decider-spelt : (at n : ℕ) → deciderTest s at n ≡ accepted tt → at ≤ length s → Spelt (deciderBytes (deciderAt s at)) at (length s)
+  decider-spelt at n e inside =
+      both (leb (length s) at) (sym (decider-row s at n) ∙ e)
+      (λ b _. let h = leb-true (length s) at b in rw b (nil at (length s) (omega arith)))
       (λ b x.
-      let here = repeat-header at (suc left) 4 18 _ (then-first _ _ x .1) in
-      let (xs, rest, all) = more-first (opAt s at) (fieldsFrom 4 18 (opWrong H) opAt s left (at + 3 + 18)) (then-rest (repeatTest s at (suc left) 4 18 (opWrong H (opAt s at))) _ x) in
-      rw all (op-spelt at (at + 3 + 18) here refl and-then ops-spelt H left (at + 3 + 18) xs rest (here .whole)))
+      let h = field-header at 5 1 _ (then-first _ _ x .1) in
+      let last = nothing-passed s (at + 4) (then-rest _ _ x) in
+      rw b (header-spelt at 5 1 (at + 3) h refl and-then one (at + 3) (length s) (omega arith) (omega arith)))
 
   -- the three fields before the operations pass
   heads : headTest s ≡ accepted tt → Header 0 1 2 × Header 5 2 3 × Header 11 3 (4 + 4 * headOf s .modes)
@@ -150,15 +148,6 @@ module _ (s : List ℕ) (small : (i : ℕ) → i < length s → getD s i 0 < 256
       let f1 = then-rest _ _ f0 in
       let f2 = then-rest _ _ f1 in
       (field-header 0 1 2 _ (then-first _ _ f0 .1), field-header 5 2 3 _ (then-first _ _ f1 .1), field-header 11 3 _ _ (then-first _ _ f2 .1))
-
-  -- and the operations
-  comes : (T : Table) → judge s ≡ accepted T
-      → (headTest s ≡ accepted tt)
-      × ((os : List Op) × (opsFrom (headOf s) s 32 (opsPlace (headOf s .modes)) ≡ accepted os) × (withOps (headOf s) os ≡ T))
-  comes T e =
-      let e0 = sym (judge-row s) ∙ e in
-      let (os, come, whole) = onwards-first _ _ (then-rest _ _ e0) in
-      (then-first _ _ e0 .1, (os, come, whole-accepted _ T whole .0))
 
   -- a head that passes is written again
   head-spelt : headTest s ≡ accepted tt → Spelt (headBytes (headOf s)) 0 (opsPlace (headOf s .modes))
@@ -183,11 +172,15 @@ module _ (s : List ℕ) (small : (i : ℕ) → i < length s → getD s i 0 < 256
   pub read-written : (T : Table) → judge s ≡ accepted T → tableBytes T ≡ s
   unfolding tableBytes opsFrom
   read-written T e =
-      let (passes, (os, come, same)) = comes T e in
-      let all : Spelt (tableBytes (withOps (headOf s) os)) 0 (length s) =
-      head-spelt passes and-then ops-spelt (headOf s) 32 (opsPlace (headOf s .modes)) os come (omega (arith, head-ok s passes .1))
+      let p = judge-parts s T e in
+      let passes = then-first _ _ (sym (judge-row s) ∙ e) .1 in
+      let U = withOps (headOf s) (p .ops) in
+      let all : Spelt (tableBytes (withDecider U (deciderAt s (opsEnd U)))) 0 (length s) =
+      head-spelt passes
+      and-then ops-spelt (headOf s) 32 (opsPlace (headOf s .modes)) (p .ops) (p .come) (opsEnd U) refl
+      and-then decider-spelt (opsEnd U) _ (p .decider) (parts-inside s T p)
       in
-      rw (← same)
-      (sym (append-nil (tableBytes (withOps (headOf s) os)))
-      ∙ ap (λ (l : List ℕ). tableBytes (withOps (headOf s) os) ++ l) (sym (drop-length s))
+      rw (← whole-accepted _ T (p .whole) .0)
+      (sym (append-nil (tableBytes (withDecider U (deciderAt s (opsEnd U)))))
+      ∙ ap (λ (l : List ℕ). tableBytes (withDecider U (deciderAt s (opsEnd U))) ++ l) (sym (drop-length s))
       ∙ all .is)

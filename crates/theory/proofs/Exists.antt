@@ -75,7 +75,7 @@ step-lt (f ∷ fs) k s h =
     or-lt k (cond (has s 0) f 0) _ (cond-lt (has s 0) f (2 ^ k) (h 0)) (step-lt fs k _ (λ a. h (suc a)))
 
 module _ (T : Table) (ok : Accepted T) where
-  followers-lt : (a : ℕ) → followers T a < 2 ^ T .modes
+  pub followers-lt : (a : ℕ) → followers T a < 2 ^ T .modes
   followers-lt a = go (decLt a (T .modes))
     where
       go : Dec (a < T .modes) → followers T a < 2 ^ T .modes

@@ -2,7 +2,7 @@
 -- Assumes nothing.
 use Prim.Native.Nat.{ℕ, zero, suc, _+_, _-_, _*_, _^_, _<_, _≤_}
 use mathlib.Core.Path.{_≡_, refl, sym, ap, subst, _∙_}
-use mathlib.Core.Bool.{Bool, true, false, not, cond, false≢true}
+use mathlib.Core.Bool.{Bool, true, false, not, cond}
 use mathlib.Core.List.{List, [], _∷_}
 use mathlib.Core.Logic.{_↔_, _⊎_, inl, inr}
 use native.Mathlib.Omega.{arith}
@@ -11,17 +11,18 @@ use lib.Bits.{bitOr}
 use lib.ListN.{length, getD, drop, length-drop}
 use borrow.Author.Tests.{lt-ltb, ltb-false, leb-false, leb-true, eqb-true, eqb-false, not-false}
 use Rattle.rules.specs.Sets.{Share}
-use Rattle.rules.specs.Table.{Op, Table, nops, op, noOp, SetOf, OpOk, Clash, Race, Contest, Accepted}
-use Rattle.rules.specs.Verdicts.{Verdict, accepted, refused, SHORT, ORDER, SIZE, MANY, CLASH, RACE, Test, refuseIf, _then_, onwards, more, each}
-use Rattle.rules.specs.Bytes.{words, opAt}
-use Rattle.rules.specs.Judge.{needed, header, due, sized, complete, ranged, notMany, fieldTest, repeatTest, fieldsFrom, lenRanges, lenWrong, countRanges, countsWrong, setOk, setRanges, setsWrong, opRanges, opWrong, clashes, races, pairsTest, judgeWhole, headOf, withOps, opsPlace, headTest, opsFrom, judge, Numbers, opOfNumbers, headOfNumbers, numbersTest, opsOfNumbers, judgeNumbers}
+use Rattle.rules.specs.Table.{Op, Decider, nobody, decides, Table, nops, op, noOp, SetOf, OpOk, Clash, Race, Contest, Decided, Accepted}
+use Rattle.rules.specs.Verdicts.{accepted, refused, SHORT, ORDER, SIZE, MANY, CLASH, RACE, Test, refuseIf, _then_, onwards, more, each}
+use Rattle.rules.specs.Bytes.{num8, words, opAt, deciderBytes}
+use Rattle.rules.specs.Judge.{needed, header, due, sized, complete, ranged, notMany, fieldTest, repeatTest, fieldsFrom, lenRanges, lenWrong, countRanges, countsWrong, setOk, setRanges, setsWrong, opRanges, opWrong, deciderRanges, deciderWrong, clashes, races, pairsTest, earlyTest, judgeWhole, headOf, withOps, withDecider, opsPlace, opsEnd, headTest, opsDone, opsFrom, nothingDue, deciderAt, deciderTest, judgeBehind, judge, Numbers, opOfNumbers, headOfNumbers, deciderOf, numbersTest, opsOfNumbers, judgeDecider, judgeNumbers}
 use Rattle.rules.specs.Bench.{All}
 use Rattle.theory.specs.Pairs.{FirstPair}
 use Rattle.theory.proofs.Order.{Cmp, cmp}
-use Rattle.theory.proofs.Says.{Says, says-by, says-leb, says-ltb, says-and, says-or, clash-bool}
+use Rattle.theory.proofs.Says.{Says, says-by, says-leb, says-ltb, says-and, says-or, says-false, says-eqb, clash-bool}
 use Rattle.theory.proofs.Sets.{in-or, says-shares}
 use Rattle.theory.proofs.Tests.{says-overlaps}
 use Rattle.theory.proofs.Ranges.{Fine, none-wrong, range-passed}
+use Rattle.theory.proofs.Early.{early-iff}
 use Rattle.theory.proofs.Verdicts.{never-refused, passes, passed, fault-refused, then-accepts, then-first, then-rest, then-refused, onwards-first, more-first, each-accepts, each-accepted}
 
 -- ---- the tests of the judge say the statements of the table
@@ -123,14 +124,14 @@ says-sets n ss =
 -- ---- the first test that refuses
 
 -- of the tests f i, .., n of them, test k refuses and those before it accept
-record FirstRefused (f : ℕ → Test) (i n k number a b : ℕ) : Type 0 where
-  from : i ≤ k
-  to : k < i + n
-  here : f k ≡ refused number a b
-  before : (l : ℕ) → i ≤ l → l < k → f l ≡ accepted tt
+pub record FirstRefused (f : ℕ → Test) (i n k number a b : ℕ) : Type 0 where
+  pub from : i ≤ k
+  pub to : k < i + n
+  pub here : f k ≡ refused number a b
+  pub before : (l : ℕ) → i ≤ l → l < k → f l ≡ accepted tt
 
 -- such a row is refused as test k is
-each-refuses : (f : ℕ → Test) (i n k number a b : ℕ) → FirstRefused f i n k number a b → each f i n ≡ refused number a b
+pub each-refuses : (f : ℕ → Test) (i n k number a b : ℕ) → FirstRefused f i n k number a b → each f i n ≡ refused number a b
 unfolding each
 each-refuses f i zero k number a b x = absurd (omega arith)
 each-refuses f i (suc n) k number a b x = go (cmp i k) (each-refuses f (suc i) n k number a b)
@@ -143,7 +144,7 @@ each-refuses f i (suc n) k number a b x = go (cmp i k) (each-refuses f (suc i) n
     go (Cmp.more h) rec = absurd (omega arith)
 
 -- a row that is refused has such a test
-each-refused : (f : ℕ → Test) (i n number a b : ℕ) → each f i n ≡ refused number a b → (k : ℕ) × FirstRefused f i n k number a b
+pub each-refused : (f : ℕ → Test) (i n number a b : ℕ) → each f i n ≡ refused number a b → (k : ℕ) × FirstRefused f i n k number a b
 unfolding each
 each-refused f i zero number a b e = never-refused (sym e)
 each-refused f i (suc n) number a b e =
@@ -159,11 +160,6 @@ each-refused f i (suc n) number a b e =
     at l p q h x (Cmp.more z) = absurd (omega arith)
 
 -- ---- pairs
-
--- the test is false exactly where the statement does not hold
-says-false : {P : Type 0} (b : Bool) → Says b P → (b ≡ false) ↔ (P → ⊥)
-says-false true s = (λ e p. false≢true (sym e), λ n. absurd (n (s .0 refl)))
-says-false false s = (λ e p. false≢true (s .1 p), λ n. refl)
 
 module _ (hit : Op → Op → Bool) (number : ℕ) (T : Table) where
   -- the tests of the pairs with a first number
@@ -233,10 +229,15 @@ module _ (hit : Op → Op → Bool) (number : ℕ) (T : Table) where
     λ f. pairs-accepted .1 (λ i j h k. says-false _ (says (op T i) (op T j)) .1 (f i j h k)),
   )
 
--- the row of tests that the judgement of the pairs is
-pub whole-row : (T : Table) → judgeWhole T ≡ (pairsTest clashes CLASH T then pairsTest races RACE T then accepted T)
+-- the row of tests that the judgement of the whole table is
+pub whole-row : (T : Table) → judgeWhole T ≡ (pairsTest clashes CLASH T then pairsTest races RACE T then earlyTest T (T .decider) then accepted T)
 unfolding judgeWhole
 whole-row T = refl
+
+-- a decider that is one is an operation
+pub decider-there : (T : Table) (who : Decider) → Decided T who → (d : ℕ) → who ≡ decides d → d < nops T
+decider-there T nobody x d e = let z : _≡_ {A = ℕ} 0 1 = cc in absurd (omega arith)
+decider-there T (decides i) x d e = let same : i ≡ d = cc in omega (arith, x .isOp)
 
 -- a table that is accepted passes it
 pub whole-accepts : (T : Table) → Accepted T → judgeWhole T ≡ accepted T
@@ -244,18 +245,23 @@ whole-accepts T ok =
     whole-row T
     ∙ then-accepts _ (pairs-say clashes CLASH T says-clashes .1 (ok .no-clash))
     ∙ then-accepts _ (pairs-say races RACE T says-races .1 (ok .no-race))
+    ∙ then-accepts _ (early-iff T (λ i h. ok .each i h .modes) (T .decider) (decider-there T (T .decider) (ok .decided)) .1 (ok .decided))
 
--- what passes has neither clash nor race, and is handed on
+-- what passes has neither clash nor race, is not EARLY, and is handed on
 pub whole-accepted : (T U : Table) → judgeWhole T ≡ accepted U
     → (T ≡ U)
     × ((i j : ℕ) → i < j → j < nops T → Clash (op T i) (op T j) → ⊥)
     × ((i j : ℕ) → i < j → j < nops T → Race (op T i) (op T j) → ⊥)
+    × (earlyTest T (T .decider) ≡ accepted tt)
 whole-accepted T U e =
     let here = sym (whole-row T) ∙ e in
-    let same : accepted T ≡ accepted U = then-rest _ _ (then-rest _ _ here) in (
+    let next = then-rest _ _ here in
+    let last = then-rest _ _ next in
+    let same : accepted T ≡ accepted U = then-rest _ _ last in (
       cc,
       pairs-say clashes CLASH T says-clashes .0 (then-first _ _ here .1),
-      pairs-say races RACE T says-races .0 (then-first _ _ (then-rest _ _ here) .1),
+      pairs-say races RACE T says-races .0 (then-first _ _ next .1),
+      then-first _ _ last .1,
     )
 
 -- ---- one field
@@ -289,12 +295,11 @@ module _ (s : List ℕ) (at tag size wrong : ℕ) where
       let (full, fine) = value-passed (then-rest _ _ (then-rest _ _ from)) in
       (passed _ MANY at 0 (then-first _ _ from .1), full, fine)
 
--- ---- what comes repeatedly, each in `unit` places
+-- ---- what comes repeatedly
 
--- at most `left` of them, they fill `room` places, and each passes
-pub record Passing {A : Type 0} (wrong : A → ℕ) (none : A) (unit left room : ℕ) (xs : List A) : Type 0 where
+-- at most `left` of them, and each passes
+pub record Passing {A : Type 0} (wrong : A → ℕ) (none : A) (left : ℕ) (xs : List A) : Type 0 where
   pub few : length xs ≤ left
-  pub filled : room ≡ length xs * unit
   pub each : (i : ℕ) → i < length xs → wrong (getD xs i none) ≡ 0
 
 -- a fact that follows on both sides of a test
@@ -302,86 +307,90 @@ pub both : {A X : Type 0} (b : Bool) {u v w : A} → cond b u v ≡ w → (b ≡
 both true e f g = f refl e
 both false e f g = g refl e
 
-module _ {A : Type 0} (wrong : A → ℕ) (none : A) (unit : ℕ) where
-  -- nothing comes where there is no room
-  passing-none : {left room : ℕ} {xs : List A} → room ≡ 0 → accepted [] ≡ accepted xs → Passing wrong none unit left room xs
-  passing-none {xs = []} r e = record { few = omega arith; filled = omega arith; each = λ i h. absurd (omega (arith, h)) }
-  passing-none {xs = x ∷ xs} r e = let z : _≡_ {A = ℕ} 0 1 = cc in absurd (omega arith)
+module _ {A : Type 0} (wrong : A → ℕ) (none : A) where
+  passing-none : (left : ℕ) → Passing wrong none left []
+  passing-none left = record { few = omega arith; each = λ i h. absurd (omega (arith, h)) }
 
   -- one more in front, which passes
-  passing-more : {left room rest : ℕ} {x : A} (v : Verdict (List A)) {ys : List A} → wrong x ≡ 0 → room ≡ unit + rest → more x v ≡ accepted ys
-      → ((xs : List A) → v ≡ accepted xs → Passing wrong none unit left rest xs)
-      → Passing wrong none unit (suc left) room ys
-  passing-more {left} {room} {rest} {x} v fine r e f =
-      let (xs, y, whole) = more-first x v e in subst (λ (zs : List A). Passing wrong none unit (suc left) room zs) (sym whole) (go xs (f xs y))
+  passing-more : {left : ℕ} {x : A} {xs : List A} → wrong x ≡ 0 → Passing wrong none left xs → Passing wrong none (suc left) (x ∷ xs)
+  passing-more {left} {x} {xs} fine p = record { few = omega arith; each = at }
     where
-      go : (xs : List A) → Passing wrong none unit left rest xs → Passing wrong none unit (suc left) room (x ∷ xs)
-      go xs p = record { few = omega arith; filled = omega (arith, r, p .filled); each = at }
-        where
-          at : (i : ℕ) → i < length (x ∷ xs) → wrong (getD (x ∷ xs) i none) ≡ 0
-          at zero h = fine
-          at (suc i) h = p .each i (omega arith)
-
-  -- where there is room to fill, there is one at least
-  passing-some : {left room : ℕ} (xs : List A) → 0 < room → Passing wrong none unit left room xs → 0 < length xs
-  passing-some [] h p = omega arith
-  passing-some (x ∷ xs) h p = omega arith
+      at : (i : ℕ) → i < length (x ∷ xs) → wrong (getD (x ∷ xs) i none) ≡ 0
+      at zero h = fine
+      at (suc i) h = p .each i (omega arith)
 
 -- each of them stands `unit` places behind the one before, the first at a place
 abbrev pub Placed : {A : Type 0} → A → (ℕ → A) → ℕ → ℕ → List A → Type 0
 Placed none f unit at xs = (i : ℕ) → i < length xs → getD xs i none ≡ f (at + i * unit)
 
 module _ {A : Type 0} (none : A) (f : ℕ → A) (unit at : ℕ) where
-  placed-none : {xs : List A} → accepted [] ≡ accepted xs → Placed none f unit at xs
-  placed-none {xs = []} e i h = absurd (omega (arith, h))
-  placed-none {xs = x ∷ xs} e i h = let z : _≡_ {A = ℕ} 0 1 = cc in absurd (omega arith)
-
   placed-more : (next : ℕ) → next ≡ at + unit → (xs : List A) → Placed none f unit next xs → Placed none f unit at (f at ∷ xs)
   placed-more next e xs rest zero h = ap f (omega arith)
   placed-more next e xs rest (suc i) h = rest i (omega (arith, h)) ∙ ap f (omega arith)
 
-module _ {A : Type 0} (tag size : ℕ) (wrong : A → ℕ) (value : List ℕ → ℕ → A) (s : List ℕ) where
+-- behind the last of them they end, inside the input if they begin there
+pub record Ended {A : Type 0} (ends : List ℕ → ℕ → Bool) (s : List ℕ) (unit at : ℕ) (xs : List A) : Type 0 where
+  pub done : ends s (at + length xs * unit) ≡ true
+  pub inside : at ≤ length s → at + length xs * unit ≤ length s
+
+module _ {A : Type 0} (ends : List ℕ → ℕ → Bool) (tag size : ℕ) (wrong : A → ℕ) (value : List ℕ → ℕ → A) (s : List ℕ) where
   -- the tests at one place, where no more may come and where one may
   pub fields-end : (at : ℕ)
-      → fieldsFrom tag size wrong value s zero at
-      ≡ cond (leb (length s) at) (accepted []) (repeatTest s at 0 tag size (wrong (value s at)) then accepted [])
+      → fieldsFrom ends tag size wrong value s zero at
+      ≡ cond (ends s at) (accepted []) (repeatTest s at 0 tag size (wrong (value s at)) then accepted [])
   unfolding fieldsFrom
   fields-end at = refl
 
   pub fields-next : (left at : ℕ)
-      → fieldsFrom tag size wrong value s (suc left) at
-      ≡ cond (leb (length s) at) (accepted [])
-      (repeatTest s at (suc left) tag size (wrong (value s at)) then more (value s at) (fieldsFrom tag size wrong value s left (at + 3 + size)))
+      → fieldsFrom ends tag size wrong value s (suc left) at
+      ≡ cond (ends s at) (accepted [])
+      (repeatTest s at (suc left) tag size (wrong (value s at)) then more (value s at) (fieldsFrom ends tag size wrong value s left (at + 3 + size)))
   unfolding fieldsFrom
   fields-next left at = refl
 
-  -- repeated fields that are accepted fill the rest of the input
-  pub fields-passing : (none : A) (left at : ℕ) (xs : List A) → fieldsFrom tag size wrong value s left at ≡ accepted xs
-      → Passing wrong none (3 + size) left (length s - at) xs
-  fields-passing none zero at xs e =
-      both _ (sym (fields-end at) ∙ e)
-      (λ b x. passing-none wrong none (3 + size) (omega (arith, leb-true (length s) at b)) x)
+  -- what holds of none where they end, and of one more in front that passes, holds of all that are accepted
+  pub fields-all : (P : ℕ → ℕ → List A → Type 0)
+      → ((left at : ℕ) → ends s at ≡ true → P left at [])
+      → ((left at : ℕ) (xs : List A) → repeatTest s at (suc left) tag size (wrong (value s at)) ≡ accepted tt → P left (at + 3 + size) xs
+      → P (suc left) at (value s at ∷ xs))
+      → (left at : ℕ) (xs : List A) → fieldsFrom ends tag size wrong value s left at ≡ accepted xs → P left at xs
+  fields-all P none one zero at xs e =
+      both (ends s at) (sym (fields-end at) ∙ e)
+      (λ b x. let same : [] ≡ xs = cc in subst (λ (ys : List A). P 0 at ys) same (none 0 at b))
       (λ b x. clash-bool refl (repeat-passed s at tag size _ 0 (then-first _ _ x .1) .0))
-  fields-passing none (suc left) at xs e =
-      both _ (sym (fields-next left at) ∙ e)
-      (λ b x. passing-none wrong none (3 + size) (omega (arith, leb-true (length s) at b)) x)
-      (λ b x.
-      let (_, full, fine) = repeat-passed s at tag size _ (suc left) (then-first _ _ x .1) in
-      passing-more wrong none (3 + size) _ fine (omega arith) (then-rest _ _ x) (fields-passing none left (at + 3 + size)))
-
-  -- and each has its value from its own place
-  pub fields-values : (none : A) (left at : ℕ) (xs : List A) → fieldsFrom tag size wrong value s left at ≡ accepted xs → Placed none (value s) (3 + size) at xs
-  fields-values none zero at xs e =
-      both (leb (length s) at) (sym (fields-end at) ∙ e)
-      (λ b x. placed-none none (value s) (3 + size) at x)
-      (λ b x. clash-bool refl (repeat-passed s at tag size _ 0 (then-first _ _ x .1) .0))
-  fields-values none (suc left) at xs e =
-      both (leb (length s) at) (sym (fields-next left at) ∙ e)
-      (λ b x. placed-none none (value s) (3 + size) at x)
+  fields-all P none one (suc left) at xs e =
+      both (ends s at) (sym (fields-next left at) ∙ e)
+      (λ b x. let same : [] ≡ xs = cc in subst (λ (ys : List A). P (suc left) at ys) same (none (suc left) at b))
       (λ b x.
       let (ys, rest, whole) = more-first (value s at) _ (then-rest _ _ x) in
-      subst (λ (zs : List A). Placed none (value s) (3 + size) at zs) (sym whole)
-      (placed-more none (value s) (3 + size) at (at + 3 + size) (omega arith) ys (fields-values none left (at + 3 + size) ys rest)))
+      subst (λ (zs : List A). P (suc left) at zs) (sym whole)
+      (one left at ys (then-first _ _ x .1) (fields-all P none one left (at + 3 + size) ys rest)))
+
+  -- they are few, and each passes
+  pub fields-passing : (none : A) (left at : ℕ) (xs : List A) → fieldsFrom ends tag size wrong value s left at ≡ accepted xs
+      → Passing wrong none left xs
+  fields-passing none =
+      fields-all (λ left at xs. Passing wrong none left xs)
+      (λ left at e. passing-none wrong none left)
+      (λ left at xs e p. passing-more wrong none (repeat-passed s at tag size _ (suc left) e .2) p)
+
+  -- each has its value from its own place
+  pub fields-values : (none : A) (left at : ℕ) (xs : List A) → fieldsFrom ends tag size wrong value s left at ≡ accepted xs
+      → Placed none (value s) (3 + size) at xs
+  fields-values none =
+      fields-all (λ left at xs. Placed none (value s) (3 + size) at xs)
+      (λ left at e i h. absurd (omega (arith, h)))
+      (λ left at xs e p. placed-more none (value s) (3 + size) at (at + 3 + size) (omega arith) xs p)
+
+  -- and they end
+  pub fields-ended : (left at : ℕ) (xs : List A) → fieldsFrom ends tag size wrong value s left at ≡ accepted xs → Ended ends s (3 + size) at xs
+  fields-ended =
+      fields-all (λ left at xs. Ended ends s (3 + size) at xs)
+      (λ left at e. let here : at ≡ at + 0 * (3 + size) = omega arith in record { done = subst (λ (k : ℕ). ends s k ≡ true) here e; inside = λ h. omega arith })
+      (λ left at xs e p.
+      let next : at + 3 + size + length xs * (3 + size) ≡ at + suc (length xs) * (3 + size) = omega arith in
+      let whole = repeat-passed s at tag size _ (suc left) e .1 in
+      record { done = subst (λ (k : ℕ). ends s k ≡ true) next (p .done); inside = λ h. omega (arith, p .inside whole) })
 
 -- ---- the whole table
 
@@ -414,12 +423,21 @@ pub record HeadOk (H : Table) : Type 0 where
   pub words : length (H .follow) ≡ H .modes
   pub sets : setsWrong (H .modes) (H .first ∷ H .follow) ≡ 0
 
--- such a head with operations that pass is accepted where the judgement of its pairs accepts
-whole-ok : (H : Table) (os : List Op) (unit room : ℕ) (T : Table) → HeadOk H → 0 < room → Passing (opWrong H) noOp unit 32 room os
-    → judgeWhole (withOps H os) ≡ accepted T → Accepted T
+-- a decider in its range is one of n operations
+pub says-decider : (n : ℕ) (who : Decider) → (deciderWrong n who ≡ 0) ↔ ((d : ℕ) → who ≡ decides d → d < n)
+unfolding deciderWrong All
+says-decider n nobody = (λ e d x. let z : _≡_ {A = ℕ} 0 1 = cc in absurd (omega arith), λ x. none-wrong (deciderRanges n nobody) .1 tt)
+says-decider n (decides i) = (
+  λ e d x. let same : i ≡ d = cc in omega (arith, says-ltb i n .0 (none-wrong (deciderRanges n (decides i)) .0 e .0)),
+  λ x. none-wrong (deciderRanges n (decides i)) .1 (says-ltb i n .1 (x i refl), tt),
+)
+
+-- such a head with operations and a decider that pass is accepted where the judgement of the whole accepts
+whole-ok : (H : Table) (os : List Op) (who : Decider) (T : Table) → HeadOk H → 0 < length os → Passing (opWrong H) noOp 32 os
+    → deciderWrong (length os) who ≡ 0 → judgeWhole (withDecider (withOps H os) who) ≡ accepted T → Accepted T
 unfolding opWrong
-whole-ok H os unit room T head some ops e =
-    let (same, no-clash, no-race) = whole-accepted (withOps H os) T e in
+whole-ok H os who T head some ops decider e =
+    let (same, no-clash, no-race, early) = whole-accepted (withDecider (withOps H os) who) T e in
     let (len-low, len-high) = says-len (H .len) .0 (head .len) in
     let (boards-low, (boards-high, (cells-high, (modes-low, modes-high)))) =
     says-counts (H .boards) (H .cells) (H .modes) .0 (head .counts)
@@ -434,15 +452,49 @@ whole-ok H os unit room T head some ops e =
       cells-high = cells-high;
       modes-low = modes-low;
       modes-high = modes-high;
-      ops-low = passing-some (opWrong H) noOp unit os some ops;
+      ops-low = some;
       ops-high = ops .few;
       firsts = sets 0 (omega arith);
       words = head .words;
       follows = λ a h. sets (suc a) (omega (arith, head .words));
-      each = λ i h. op-passed (withOps H os) (getD os i noOp) (ops .each i h);
+      each = each;
       no-clash = no-clash;
       no-race = no-race;
+      decided =
+          early-iff (withDecider (withOps H os) who) (λ i h. each i h .modes) who (says-decider (length os) who .0 decider) .0 early;
     })
+  where
+    each : (i : ℕ) → i < length os → OpOk (withDecider (withOps H os) who) (getD os i noOp)
+    each i h = op-passed (withDecider (withOps H os) who) (getD os i noOp) (ops .each i h)
+
+-- ---- where the operations end
+
+module _ (T : Table) (s : List ℕ) (at : ℕ) where
+  says-done : Says (opsDone T s at) ((length s ≤ at) ⊎ ((opsPlace (T .modes) < at) × (num8 s at ≡ 5)))
+  unfolding opsDone
+  says-done = says-or _ _ (says-leb (length s) at) (says-and _ _ (says-ltb (opsPlace (T .modes)) at) (says-eqb (num8 s at) 5))
+
+  -- at the end of the input; at a field 05; not at another, nor where the first is due
+  pub done-end : length s ≤ at → opsDone T s at ≡ true
+  done-end h = says-done .1 (inl h)
+
+  pub done-05 : opsPlace (T .modes) < at → num8 s at ≡ 5 → opsDone T s at ≡ true
+  done-05 h e = says-done .1 (inr (h, e))
+
+  pub done-not : at < length s → (opsPlace (T .modes) < at → num8 s at ≡ 5 → ⊥) → opsDone T s at ≡ false
+  done-not h n = says-false _ says-done .1 go
+    where
+      go : (length s ≤ at) ⊎ ((opsPlace (T .modes) < at) × (num8 s at ≡ 5)) → ⊥
+      go (inl x) = omega arith
+      go (inr x) = n (x .0) (x .1)
+
+  -- so something stands where they are done before the end
+  pub done-is : opsDone T s at ≡ true → at < length s → num8 s at ≡ 5
+  done-is e h = go (says-done .0 e)
+    where
+      go : (length s ≤ at) ⊎ ((opsPlace (T .modes) < at) × (num8 s at ≡ 5)) → num8 s at ≡ 5
+      go (inl x) = absurd (omega arith)
+      go (inr x) = x .1
 
 -- ---- a table's bytes
 
@@ -465,9 +517,25 @@ module _ (s : List ℕ) where
 
   pub judge-row : judge s
       ≡ (headTest s
-      then onwards (opsFrom (headOf s) s 32 (opsPlace (headOf s .modes))) (λ os. judgeWhole (withOps (headOf s) os)))
+      then onwards (opsFrom (headOf s) s 32 (opsPlace (headOf s .modes))) (λ os. judgeBehind s (withOps (headOf s) os)))
   unfolding judge
   judge-row = refl
+
+  -- and those that come behind the operations
+  pub behind-row : (T : Table)
+      → judgeBehind s T ≡ (deciderTest s (opsEnd T) (nops T) then judgeWhole (withDecider T (deciderAt s (opsEnd T))))
+  unfolding judgeBehind
+  behind-row T = refl
+
+  pub decider-row : (at n : ℕ)
+      → deciderTest s at n
+      ≡ cond (leb (length s) at) (accepted tt) (fieldTest s at 5 1 (deciderWrong n (deciderAt s at)) then nothingDue s (at + 4))
+  unfolding deciderTest
+  decider-row at n = refl
+
+  pub nothing-row : (at : ℕ) → nothingDue s at ≡ cond (leb (length s) at) (accepted tt) (header s at then refused ORDER at 0)
+  unfolding nothingDue
+  nothing-row at = refl
 
   -- a head that passes is in its ranges, and something comes behind it
   pub head-ok : headTest s ≡ accepted tt → HeadOk (headOf s) × (opsPlace (headOf s .modes) < length s)
@@ -485,31 +553,76 @@ module _ (s : List ℕ) where
         leb-false _ _ (passed _ ORDER _ 0 (then-rest _ _ e2)),
       )
 
-  -- operations that are accepted fill the rest of the input
-  ops-passing : (at : ℕ) (os : List Op) → opsFrom (headOf s) s 32 at ≡ accepted os → Passing (opWrong (headOf s)) noOp 21 32 (length s - at) os
+  -- operations that are accepted
+  pub ops-passing : (H : Table) (at : ℕ) (os : List Op) → opsFrom H s 32 at ≡ accepted os → Passing (opWrong H) noOp 32 os
   unfolding opsFrom
-  ops-passing = fields-passing 4 18 (opWrong (headOf s)) opAt s noOp 32
+  ops-passing H = fields-passing (opsDone H) 4 18 (opWrong H) opAt s noOp 32
+
+  pub ops-ended : (H : Table) (at : ℕ) (os : List Op) → opsFrom H s 32 at ≡ accepted os → Ended (opsDone H) s 21 at os
+  unfolding opsFrom
+  ops-ended H = fields-ended (opsDone H) 4 18 (opWrong H) opAt s 32
+
+  -- the operations do not end where they begin, if something comes there
+  ops-begun : (H : Table) → opsPlace (H .modes) < length s → opsDone H s (opsPlace (H .modes)) ≡ true → ⊥
+  ops-begun H some e = clash-bool e (done-not H s (opsPlace (H .modes)) some (λ h _. omega arith))
+
+  -- so there is one at least
+  pub ops-some : (H : Table) (os : List Op) → opsPlace (H .modes) < length s → opsFrom H s 32 (opsPlace (H .modes)) ≡ accepted os → 0 < length os
+  ops-some H [] some e =
+      let here : opsPlace (H .modes) + 0 * 21 ≡ opsPlace (H .modes) = omega arith in
+      absurd (ops-begun H some (subst (λ (k : ℕ). opsDone H s k ≡ true) here (ops-ended H _ [] e .done)))
+  ops-some H (o ∷ os) some e = omega arith
+
+  -- nothing comes where nothing is due
+  pub nothing-passed : (at : ℕ) → nothingDue s at ≡ accepted tt → length s ≤ at
+  nothing-passed at e =
+      both (leb (length s) at) (sym (nothing-row at) ∙ e)
+      (λ b _. leb-true (length s) at b)
+      (λ _ x. never-refused (then-rest (header s at) _ x))
+
+  -- who decides is in range, and the input ends behind
+  pub decider-passed : (at n : ℕ) → deciderTest s at n ≡ accepted tt → at ≤ length s
+      → (deciderWrong n (deciderAt s at) ≡ 0) × (length s ≡ at + length (deciderBytes (deciderAt s at)))
+  unfolding deciderWrong All
+  decider-passed at n e inside =
+      both (leb (length s) at) (sym (decider-row at n) ∙ e)
+      (λ b _. let h = leb-true (length s) at b in rw b (none-wrong (deciderRanges n nobody) .1 tt, omega arith))
+      (λ b x.
+      let (whole, fine) = field-passed s at 5 1 _ (then-first _ _ x .1) in
+      let last = nothing-passed (at + 4) (then-rest _ _ x) in
+      (fine, rw b (omega arith)))
 
 -- what the bytes of an accepted table consist of
 pub record Parts (s : List ℕ) (T : Table) : Type 0 where
   pub head : HeadOk (headOf s)
   pub place : opsPlace (headOf s .modes) < length s
   pub ops : List Op
-  pub passing : Passing (opWrong (headOf s)) noOp 21 32 (length s - opsPlace (headOf s .modes)) ops
-  pub whole : judgeWhole (withOps (headOf s) ops) ≡ accepted T
+  pub come : opsFrom (headOf s) s 32 (opsPlace (headOf s .modes)) ≡ accepted ops
+  pub decider : deciderTest s (opsEnd (withOps (headOf s) ops)) (length ops) ≡ accepted tt
+  pub whole : judgeWhole (withDecider (withOps (headOf s) ops) (deciderAt s (opsEnd (withOps (headOf s) ops)))) ≡ accepted T
+
+-- its operations end inside the input
+pub parts-inside : (s : List ℕ) (T : Table) (p : Parts s T) → opsEnd (withOps (headOf s) (p .ops)) ≤ length s
+parts-inside s T p = omega (arith, p .place, ops-ended s (headOf s) _ (p .ops) (p .come) .inside (omega (arith, p .place)))
 
 -- what the judge accepts has such parts
 pub judge-parts : (s : List ℕ) (T : Table) → judge s ≡ accepted T → Parts s T
 judge-parts s T e =
     let e0 = sym (judge-row s) ∙ e in
     let (head, place) = head-ok s (then-first _ _ e0 .1) in
-    let (os, come, whole) = onwards-first _ _ (then-rest _ _ e0) in
-    record { head = head; place = place; ops = os; passing = ops-passing s _ os come; whole = whole }
+    let (os, come, rest) = onwards-first _ _ (then-rest _ _ e0) in
+    let e1 = sym (behind-row s (withOps (headOf s) os)) ∙ rest in
+    record { head = head; place = place; ops = os; come = come; decider = then-first _ _ e1 .1; whole = then-rest _ _ e1 }
 
 -- what the judge accepts is an accepted table
 pub judge-accepted : (s : List ℕ) (T : Table) → judge s ≡ accepted T → Accepted T
 judge-accepted s T e =
-    let p = judge-parts s T e in whole-ok (headOf s) (p .ops) 21 _ T (p .head) (omega arith) (p .passing) (p .whole)
+    let p = judge-parts s T e in
+    whole-ok (headOf s) (p .ops) _ T (p .head)
+    (ops-some s (headOf s) (p .ops) (p .place) (p .come))
+    (ops-passing s (headOf s) _ (p .ops) (p .come))
+    (decider-passed s _ _ (p .decider) (parts-inside s T p) .0)
+    (p .whole)
 
 -- ---- a table handed over as numbers
 
@@ -529,20 +642,28 @@ module _ (T : Table) where
   numbers-next ns left at = refl
 
   -- numbers of operations that are accepted are six for each
-  pub numbers-passing : (ns : List ℕ) (left at : ℕ) (os : List Op) → opsOfNumbers T ns left at ≡ accepted os → Passing (opWrong T) noOp 6 left (length ns) os
+  pub numbers-passing : (ns : List ℕ) (left at : ℕ) (os : List Op) → opsOfNumbers T ns left at ≡ accepted os
+      → Passing (opWrong T) noOp left os × (length ns ≡ length os * 6)
   unfolding notMany
   numbers-passing ns zero at os e =
       both _ (sym (numbers-end ns at) ∙ e)
-      (λ b x. passing-none (opWrong T) noOp 6 (eqb-true (length ns) 0 b) x)
+      (λ b x. let same : [] ≡ os = cc in rw (← same) (passing-none (opWrong T) noOp 0, eqb-true (length ns) 0 b))
       (λ b x. clash-bool refl (passed _ MANY at 0 (then-first _ _ x .1)))
   numbers-passing ns (suc left) at os e =
       both _ (sym (numbers-next ns left at) ∙ e)
-      (λ b x. passing-none (opWrong T) noOp 6 (eqb-true (length ns) 0 b) x)
+      (λ b x. let same : [] ≡ os = cc in rw (← same) (passing-none (opWrong T) noOp (suc left), eqb-true (length ns) 0 b))
       (λ b x.
       let full = ltb-false (length ns) 6 (passed _ SHORT at 0 (then-first _ _ x .1)) in
       let from = then-rest _ _ x in
-      passing-more (opWrong T) noOp 6 _ (range-passed _ at (then-first _ _ from .1)) (omega (arith, length-drop 6 ns)) (then-rest _ _ from)
-      (numbers-passing (drop 6 ns) left (at + 21)))
+      let (us, come, whole) = more-first (opOfNumbers ns) _ (then-rest _ _ from) in
+      let (p, six) = numbers-passing (drop 6 ns) left (at + 21) us come in
+      rw whole (passing-more (opWrong T) noOp (range-passed _ at (then-first _ _ from .1)) p, omega (arith, length-drop 6 ns)))
+
+-- and those that come behind the operations
+pub judgeDecider-row : (who : Decider) (T : Table)
+    → judgeDecider who T ≡ (ranged (deciderWrong (nops T) who) (opsEnd T) then judgeWhole (withDecider T who))
+unfolding judgeDecider
+judgeDecider-row who T = refl
 
 module _ (N : Numbers) where
   -- the rows of tests that the judgement of the head and the whole judgement are
@@ -557,7 +678,7 @@ module _ (N : Numbers) where
 
   pub judgeNumbers-row : judgeNumbers N
       ≡ (numbersTest N
-      then onwards (opsOfNumbers (headOfNumbers N) (N .ops) 32 (opsPlace (N .modes))) (λ os. judgeWhole (withOps (headOfNumbers N) os)))
+      then onwards (opsOfNumbers (headOfNumbers N) (N .ops) 32 (opsPlace (N .modes))) (λ os. judgeDecider (deciderOf N) (withOps (headOfNumbers N) os)))
   unfolding judgeNumbers
   judgeNumbers-row = refl
 
@@ -582,5 +703,7 @@ pub numbers-accepted : (N : Numbers) (T : Table) → judgeNumbers N ≡ accepted
 numbers-accepted N T e =
     let e0 = sym (judgeNumbers-row N) ∙ e in
     let (head, some) = numbers-ok N (then-first _ _ e0 .1) in
-    let (os, come, whole) = onwards-first _ _ (then-rest _ _ e0) in
-    whole-ok (headOfNumbers N) os 6 _ T head some (numbers-passing _ (N .ops) 32 _ os come) whole
+    let (os, come, rest) = onwards-first _ _ (then-rest _ _ e0) in
+    let e1 = sym (judgeDecider-row (deciderOf N) (withOps (headOfNumbers N) os)) ∙ rest in
+    let (passing, six) = numbers-passing _ (N .ops) 32 _ os come in
+    whole-ok (headOfNumbers N) os (deciderOf N) T head (omega arith) passing (range-passed _ _ (then-first _ _ e1 .1)) (then-rest _ _ e1)

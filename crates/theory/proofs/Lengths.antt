@@ -1,7 +1,8 @@
--- The length of an accepted table's bytes, and that no verdict depends on bytes past 821; none on a reply on bytes past 232.
+-- The length of an accepted table's bytes, and that no verdict depends on bytes past 825; none on a reply on bytes past 232.
 -- Assumes nothing.
 use Prim.Native.Nat.{ℕ, zero, suc, _+_, _-_, _*_, _<_, _≤_}
 use mathlib.Core.Path.{_≡_, refl, sym, ap, subst, _∙_}
+use mathlib.Core.Bool.{Bool}
 use mathlib.Core.List.{List, [], _∷_}
 use native.Mathlib.Omega.{arith}
 use lib.Dec.{leb, ltb}
@@ -9,30 +10,37 @@ use lib.ListN.{length, getD, take, replicate, length-take, length-replicate, get
 use lib.Seq.{getD-take}
 use borrow.Author.Tests.{eqb-false}
 use Rattle.rules.specs.Sets.{Overlap}
-use Rattle.rules.specs.Table.{Op, Table, noOp, nops, op, endOf, SetOf, Accepted}
+use Rattle.rules.specs.Table.{Op, Decider, nobody, decides, Table, noOp, nops, op, endOf, SetOf, Always, Accepted}
 use Rattle.rules.specs.Rows.{Row, ticks}
 use Rattle.rules.specs.Verdicts.{Verdict, accepted, refused, MANY, CLASH, _then_, onwards}
-use Rattle.rules.specs.Bytes.{num8, num16, num32, words, opAt, rowAt, tableBytes, longestTable, farthest}
-use Rattle.rules.specs.Judge.{needed, header, due, notMany, sized, complete, fieldTest, repeatTest, fieldsFrom, lenWrong, countsWrong, setsWrong, opWrong, clashes, headTest, headOf, opsFrom, opsPlace, judge, rowWrong, rowsFrom, judgeReply}
+use Rattle.rules.specs.Bytes.{num8, num16, num32, words, deciderBytes, opAt, rowAt, tableBytes, longestTable, farthest}
+use Rattle.rules.specs.Judge.{needed, header, due, notMany, sized, complete, fieldTest, repeatTest, atEnd, fieldsFrom, lenWrong, countsWrong, setsWrong, opWrong, deciderWrong, clashes, headTest, headOf, withOps, opsDone, opsFrom, opsPlace, opsEnd, nothingDue, deciderAt, deciderTest, judgeBehind, judge, rowWrong, rowsFrom, judgeReply}
 use Rattle.rules.specs.Bench.{opn, oneMode}
 use Rattle.theory.proofs.Says.{says-same, says-leb, says-ltb}
-use Rattle.theory.proofs.Verdicts.{passed, then-refuses, then-same}
-use Rattle.theory.proofs.Judging.{field-row, repeat-row, fields-end, fields-next, head-row, head-ok, judge-row, field-passed, says-counts, HeadOk, pairs-first, whole-row, whole-accepted, judge-parts, judge-accepted}
+use Rattle.theory.proofs.Early.{full-iff}
+use Rattle.theory.proofs.Verdicts.{passed, then-refuses, then-same, onwards-same}
+use Rattle.theory.proofs.Judging.{field-row, repeat-row, fields-end, fields-next, head-row, head-ok, judge-row, field-passed, says-counts, HeadOk, pairs-first, whole-row, whole-accepted, behind-row, decider-row, nothing-row, ops-passing, decider-passed, parts-inside, judge-parts, judge-accepted}
 use Rattle.theory.proofs.Bytes.{table-length}
 use Rattle.theory.proofs.Numbers.{ranges-written, write-read}
 use Rattle.theory.proofs.Replies.{reply-row}
 
--- a table's bytes: 18, 4 for each mode and 21 for each operation
-pub table-size : (s : List ℕ) (T : Table) → judge s ≡ accepted T → length s ≡ 18 + 4 * T .modes + 21 * nops T
+-- a table's bytes: 18, 4 for each mode, 21 for each operation, and those of the decider
+pub table-size : (s : List ℕ) (T : Table) → judge s ≡ accepted T → length s ≡ 18 + 4 * T .modes + 21 * nops T + length (deciderBytes (T .decider))
 table-size s T e =
     let p = judge-parts s T e in
-    subst (λ (U : Table). length s ≡ 18 + 4 * U .modes + 21 * nops U) (whole-accepted _ T (p .whole) .0) (omega (arith, p .passing .filled))
+    subst (λ (U : Table). length s ≡ 18 + 4 * U .modes + 21 * nops U + length (deciderBytes (U .decider))) (whole-accepted _ T (p .whole) .0)
+    (decider-passed s _ _ (p .decider) (parts-inside s T p) .1)
 
--- "The longest table has 818 bytes."
+decider-size : (who : Decider) → length (deciderBytes who) ≤ 4
+decider-size nobody = omega arith
+decider-size (decides d) = omega arith
+
+-- "01's 818 .. bytes become 822"
 pub longest : (s : List ℕ) (T : Table) → judge s ≡ accepted T → length s ≤ longestTable
-longest s T e = let ok = judge-accepted s T e in omega (arith, table-size s T e)
+longest s T e = let ok = judge-accepted s T e in omega (arith, table-size s T e, decider-size (T .decider))
 
--- ---- a table of that length is accepted: 32 modes, each follows each, and 32 operations, each on all boards in a tick of its own
+-- ---- a table of that length is accepted: 32 modes, each follows each, and 32 operations, each in every mode on all boards in a tick of its own,
+-- of which the first decides
 abbrev full : ℕ
 full = 4294967295
 
@@ -67,6 +75,7 @@ largest =
       first = full;
       follow = replicate 32 full;
       ops = inTicks 32;
+      decider = decides 0;
     }
 
 largest-op : (i : ℕ) → i < nops largest → op largest i ≡ inTick (31 - i)
@@ -80,6 +89,9 @@ apart i j h k lap =
     let there = largest-op j k in
     let lap′ : Overlap (31 - i) (31 - i + 1) (31 - j) (31 - j + 1) = rw (here, there) at lap in
     omega (arith, inTicks-length 32, lap′ .1)
+
+largest-always : (i : ℕ) → i < nops largest → Always largest (op largest i)
+largest-always i h = rw (largest-op i h) (full-iff 32 full (omega arith) .0 (omega arith))
 
 largest-accepted : Accepted largest
 largest-accepted =
@@ -109,6 +121,12 @@ largest-accepted =
           });
       no-clash = λ i j h k x. apart i j h k (x .lap);
       no-race = λ i j h k x. apart i j h k (x .lap);
+      decided =
+          record {
+            isOp = omega (arith, inTicks-length 32);
+            always = largest-always 0 (omega (arith, inTicks-length 32));
+            later = λ i h n. absurd (n (largest-always i h));
+          };
     }
 
 pub longest-reached : (s : List ℕ) × (T : Table) × (judge s ≡ accepted T) × (length s ≡ longestTable)
@@ -131,10 +149,14 @@ times-op : (i : ℕ) → i < 32 → opWrong k1-times (op k1-times i) ≡ 0
 unfolding opWrong
 times-op i h = rw (getD-replicate 32 i (opn 1 3 1 0 0 1) noOp h)
 
+times-decider : deciderWrong 32 nobody ≡ 0
+unfolding deciderWrong
+times-decider = refl
+
 pub clash-of-32 : judge (tableBytes k1-times) ≡ refused 6 0 1
 unfolding clashes
 clash-of-32 =
-    ranges-written k1-times times-head (omega arith) (omega arith) (λ i h. times-op i h)
+    ranges-written k1-times times-head (omega arith) (omega arith) (λ i h. times-op i h) times-decider
     ∙ whole-row k1-times
     ∙ then-refuses _
     (pairs-first clashes CLASH k1-times 0 1 .1
@@ -242,30 +264,56 @@ module _ (n : ℕ) (s : List ℕ) where
       rest e = omega (arith, eqb-false left 0 (passed _ MANY at 0 e))
 
   -- repeated fields, where there is room for all that may come and for one header more
-  module _ {A : Type 0} (tag size : ℕ) (wrong : A → ℕ) (value : List ℕ → ℕ → A)
+  module _ {A : Type 0} (ends : List ℕ → ℕ → Bool) (tag size : ℕ) (wrong : A → ℕ) (value : List ℕ → ℕ → A)
+      (alike : (at : ℕ) → at + 3 ≤ n → ends (take n s) at ≡ ends s at)
       (same : (at : ℕ) → at + 3 + size ≤ n → value (take n s) at ≡ value s at) where
-    fields-near : (left at : ℕ) → at + left * (3 + size) + 3 ≤ n → fieldsFrom tag size wrong value (take n s) left at ≡ fieldsFrom tag size wrong value s left at
+    fields-near : (left at : ℕ) → at + left * (3 + size) + 3 ≤ n
+        → fieldsFrom ends tag size wrong value (take n s) left at ≡ fieldsFrom ends tag size wrong value s left at
     fields-near zero at h =
         cc (
-          fields-end tag size wrong value (take n s) at,
-          fields-end tag size wrong value s at,
-          ends-near at (omega arith),
+          fields-end ends tag size wrong value (take n s) at,
+          fields-end ends tag size wrong value s at,
+          alike at (omega arith),
           repeat-near at 0 tag size {fine = wrong (value (take n s) at)} {wrong = wrong (value s at)} (omega arith) (λ h. absurd (omega arith)),
         )
     fields-near (suc left) at h =
-        let alike : value (take n s) at ≡ value s at = same at (omega arith) in
+        let here : value (take n s) at ≡ value s at = same at (omega arith) in
         cc (
-          fields-next tag size wrong value (take n s) left at,
-          fields-next tag size wrong value s left at,
-          ends-near at (omega arith),
-          repeat-near at (suc left) tag size (omega arith) (λ _. (omega arith, ap wrong alike)),
+          fields-next ends tag size wrong value (take n s) left at,
+          fields-next ends tag size wrong value s left at,
+          alike at (omega arith),
+          repeat-near at (suc left) tag size (omega arith) (λ _. (omega arith, ap wrong here)),
           fields-near left (at + 3 + size) (omega arith),
         )
 
   -- the operations' fields: 32 of 21 bytes, and one header more
+  done-near : (H : Table) (at : ℕ) → at + 3 ≤ n → opsDone H (take n s) at ≡ opsDone H s at
+  unfolding opsDone
+  done-near H at h = cc (ends-near at (omega arith), num8-near at (omega arith))
+
   ops-near : (H : Table) (at : ℕ) → at + 675 ≤ n → opsFrom H (take n s) 32 at ≡ opsFrom H s 32 at
   unfolding opsFrom
-  ops-near H at h = fields-near 4 18 (opWrong H) opAt (λ i k. op-near i (omega arith)) 32 at (omega arith)
+  ops-near H at h = fields-near (opsDone H) 4 18 (opWrong H) opAt (done-near H) (λ i k. op-near i (omega arith)) 32 at (omega arith)
+
+  -- the decider's field of 4 bytes, and one header more
+  nothing-near : (at : ℕ) → at + 3 ≤ n → nothingDue (take n s) at ≡ nothingDue s at
+  nothing-near at h = cc (nothing-row (take n s) at, nothing-row s at, ends-near at (omega arith), header-near at h)
+
+  decider-at-near : (at : ℕ) → at + 4 ≤ n → deciderAt (take n s) at ≡ deciderAt s at
+  decider-at-near at h = cc (ends-near at (omega arith), num8-near (at + 3) (omega arith))
+
+  decider-near : (at m : ℕ) → at + 7 ≤ n → deciderTest (take n s) at m ≡ deciderTest s at m
+  decider-near at m h =
+      cc (
+        decider-row (take n s) at m,
+        decider-row s at m,
+        ends-near at (omega arith),
+        field-near at 5 1 (omega arith) (ap (deciderWrong m) (decider-at-near at (omega arith))),
+        nothing-near (at + 4) (omega arith),
+      )
+
+  behind-near : (T : Table) → opsEnd T + 7 ≤ n → judgeBehind (take n s) T ≡ judgeBehind s T
+  behind-near T h = cc (behind-row (take n s) T, behind-row s T, decider-near (opsEnd T) (nops T) h, decider-at-near (opsEnd T) (omega arith))
 
   -- ---- a reply: its period, 32 rows of 7 bytes, and one header more
   row-near : (at : ℕ) → at + 7 ≤ n → rowAt (take n s) at ≡ rowAt s at
@@ -283,7 +331,7 @@ module _ (n : ℕ) (s : List ℕ) where
       (λ _ _.
       rw period
       (ap (λ (v : Verdict (List Row)). onwards v (λ rs. accepted (record { period = ticks (num16 s 3); rows = rs })))
-      (fields-near 18 4 (rowWrong (ticks (num16 s 3))) rowAt (λ i k. row-near i (omega arith)) 32 5 (omega arith))))
+      (fields-near atEnd 18 4 (rowWrong (ticks (num16 s 3))) rowAt (λ i k. ends-near i (omega arith)) (λ i k. row-near i (omega arith)) 32 5 (omega arith))))
       ∙ sym (reply-row s)
 
   -- ---- the whole input
@@ -322,21 +370,24 @@ module _ (n : ℕ) (s : List ℕ) where
         (cc (field-near 11 3 (4 + 4 * headOf s .modes) (omega arith) refl, needed-near (opsPlace (headOf s .modes)) (omega arith)))))
         ∙ sym (head-row s)
 
-    -- the first n bytes have the verdict of the whole input, for every n from 821 on
+    -- the first n bytes have the verdict of the whole input, for every n from 825 on
     pub judge-front : judge (take n s) ≡ judge s
     judge-front =
         judge-row (take n s)
         ∙ then-same headTest-near
         (λ _ e.
         let few = modes-few (headOf s) (head-ok s e .0 .counts) in
-        rw (head-near few) (cc (ops-near (headOf s) (opsPlace (headOf s .modes)) (omega arith))))
+        rw (head-near few)
+        (ap (λ (v : Verdict (List Op)). onwards v (λ os. judgeBehind (take n s) (withOps (headOf s) os))) (ops-near (headOf s) (opsPlace (headOf s .modes)) (omega arith))
+        ∙ onwards-same _ (λ os. judgeBehind (take n s) (withOps (headOf s) os)) (λ os. judgeBehind s (withOps (headOf s) os))
+        (λ os come. behind-near (withOps (headOf s) os) (omega (arith, few, ops-passing s (headOf s) _ os come .few)))))
         ∙ sym (judge-row s)
 
--- "no answer depends on bytes past 821"
+-- "no answer depends on bytes past 821", which "become .. 825"
 pub judge-near : (s : List ℕ) → judge (take farthest s) ≡ judge s
 judge-near s = judge-front farthest s (omega arith)
 
--- two inputs that differ only past byte 821 have one verdict
+-- two inputs that differ only past byte 825 have one verdict
 pub no-farther : (s t : List ℕ) → take farthest s ≡ take farthest t → judge s ≡ judge t
 no-farther s t e = sym (judge-near s) ∙ ap judge e ∙ judge-near t
 

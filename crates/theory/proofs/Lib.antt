@@ -12,7 +12,9 @@ pub mod Exists
 pub mod Verdicts
 pub mod Carry
 pub mod Ranges
+pub mod Early
 pub mod Judging
+pub mod Deciders
 pub mod Lengths
 pub mod Bounded
 pub mod Bytes
@@ -29,6 +31,6 @@ pub mod Copies
 pub mod RoundTrip
 pub mod Keeps
 pub mod Margins
+pub mod DeciderBefore
 pub mod Bench
 pub mod ShutOut
-pub mod RangeBefore

@@ -12,10 +12,10 @@ use lib.Dec.{eqb}
 use lib.ListN.{length, getD, drop, drop-of-length-le}
 use lib.Seq.{drop-cons}
 use borrow.Author.Tests.{lt-leb, le-leb, lt-ltb, le-ltb, eq-eqb, ne-eqb, eqb-true, not-false}
-use Rattle.rules.specs.Table.{Op, Table}
+use Rattle.rules.specs.Table.{Op, Decider, nobody, decides, Table}
 use Rattle.rules.specs.Rows.{Ticks, Row, unfoldAt}
 use Rattle.rules.specs.Verdicts.{accepted, refused, RANGE}
-use Rattle.rules.specs.Judge.{Number, number, wrongFrom, firstWrong, ranged, lenRanges, lenWrong, countRanges, countsWrong, setOk, setRanges, setsWrong, opRanges, opWrong, rowRanges, rowWrong}
+use Rattle.rules.specs.Judge.{Number, number, wrongFrom, firstWrong, ranged, lenRanges, lenWrong, countRanges, countsWrong, setOk, setRanges, setsWrong, opRanges, opWrong, deciderRanges, deciderWrong, rowRanges, rowWrong}
 use Rattle.rules.specs.Bench.{All}
 use Rattle.theory.specs.Blamed.{bytesBefore, among, FirstFrom}
 use Rattle.theory.proofs.Says.{Known, holds, fails, known}
@@ -131,6 +131,11 @@ pub op-within : (T : Table) (o : Op) {w : ℕ} → w ≡ opWrong T o → w ≤ 2
 unfolding opWrong bytesBefore
 op-within T o e = omega (arith, e, wrong-within 3 (opRanges T o))
 
+pub decider-within : (n : ℕ) (who : Decider) {w : ℕ} → w ≡ deciderWrong n who → w ≤ 4
+unfolding deciderWrong bytesBefore
+decider-within n nobody e = omega (arith, e, wrong-within 3 (deciderRanges n nobody))
+decider-within n (decides d) e = omega (arith, e, wrong-within 3 (deciderRanges n (decides d)))
+
 pub row-within : (q : Ticks) (r : Row) {w : ℕ} → w ≡ rowWrong q r → w ≤ 7
 unfolding rowWrong bytesBefore
 row-within q r e = omega (arith, e, wrong-within 3 (rowRanges q r))
@@ -171,6 +176,15 @@ len-low p h = rw (lt-leb 1 p h)
 pub len-high : (p : ℕ) → 1000 < p → lenWrong p ≡ 3
 unfolding lenWrong
 len-high p h = let low : 1 ≤ p = omega arith in rw (le-leb 1 p low, lt-leb p 1000 h)
+
+-- a decider that is one of n operations, and one that is none
+pub decider-low : (n d : ℕ) → d < n → deciderWrong n (decides d) ≡ 0
+unfolding deciderWrong
+decider-low n d h = rw (lt-ltb d n h)
+
+pub decider-high : (n d : ℕ) → n ≤ d → deciderWrong n (decides d) ≡ 3
+unfolding deciderWrong
+decider-high n d h = rw (le-ltb d n h)
 
 module _ (T : Table) (o : Op) where
   -- a start too large for its field

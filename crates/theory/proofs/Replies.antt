@@ -8,17 +8,17 @@ use native.Mathlib.Nat.{div-add-mod', mod-lt, mul-le-mul-left}
 use native.Mathlib.Omega.{arith}
 use lib.Dec.{leb}
 use lib.ListN.{length, getD, take, length-map, List·getD-map}
-use borrow.Author.Tests.{lt-leb}
+use borrow.Author.Tests.{lt-leb, leb-true}
 use Rattle.rules.specs.Table.{Op, Table, noOp, op, Accepted}
 use Rattle.rules.specs.Rows.{Ticks, Row, Reply, ticks, cycles, foldAt, unfoldAt, replyOf, startsOf}
 use Rattle.rules.specs.Verdicts.{accepted, ORDER, _then_, onwards}
 use Rattle.rules.specs.Bytes.{num16, rowBytes, replyBytes, rowAt}
-use Rattle.rules.specs.Judge.{lenWrong, needed, fieldTest, rowRanges, rowWrong, rowsFrom, replyTest, judgeReply}
+use Rattle.rules.specs.Judge.{lenWrong, needed, fieldTest, atEnd, rowRanges, rowWrong, rowsFrom, replyTest, judgeReply}
 use Rattle.rules.specs.Bench.{All}
 use Rattle.theory.proofs.Says.{says-leb, says-ltb}
 use Rattle.theory.proofs.Verdicts.{passes, then-accepts, then-first, then-rest, onwards-accepts, onwards-first}
 use Rattle.theory.proofs.Ranges.{none-wrong, ranged-yes}
-use Rattle.theory.proofs.Judging.{field-passed, says-len, fields-passing, fields-values}
+use Rattle.theory.proofs.Judging.{field-passed, says-len, fields-values, fields-ended}
 use Rattle.theory.proofs.Bytes.{two-bytes, past16, reply-length, field-whole, fields-accepted, Repeated, fields-back}
 
 -- ---- fold and unfold
@@ -142,15 +142,14 @@ module _ (s : List ℕ) where
   unfolding rowsFrom
   rows-in rs come ranges long =
       let q = ticks (num16 s 3) in
-      let d = rowAt s 0 in
-      let passing = fields-passing 18 4 (rowWrong q) rowAt s d 32 5 rs come in
+      let ended = fields-ended atEnd 18 4 (rowWrong q) rowAt s 32 5 rs come in
       let place : (i : ℕ) → 5 + i * 7 ≡ 5 + 7 * i = λ i. omega arith in
-      let row : (d : Row) (i : ℕ) → i < length rs → getD rs i d ≡ rowAt s (5 + 7 * i) = λ d i h. fields-values 18 4 (rowWrong q) rowAt s d 32 5 rs come i h ∙ ap (rowAt s) (place i) in
+      let row : (d : Row) (i : ℕ) → i < length rs → getD rs i d ≡ rowAt s (5 + 7 * i) = λ d i h. fields-values atEnd 18 4 (rowWrong q) rowAt s d 32 5 rs come i h ∙ ap (rowAt s) (place i) in
       record {
         period = refl;
         low = ranges .0;
         high = ranges .1;
-        size = omega (arith, passing .filled);
+        size = omega (arith, leb-true (length s) _ (ended .done), ended .inside long);
         row = row;
       }
 

@@ -64,6 +64,11 @@ pub says-not : {P : Type 0} (a : Bool) → Says a P → Says (not a) (P → ⊥)
 says-not true s = (λ e p. false≢true e, λ n. absurd (n (s .0 refl)))
 says-not false s = (λ e p. false≢true (s .1 p), λ n. refl)
 
+-- the test is false exactly where the statement does not hold
+pub says-false : {P : Type 0} (b : Bool) → Says b P → (b ≡ false) ↔ (P → ⊥)
+says-false true s = (λ e p. false≢true (sym e), λ n. absurd (n (s .0 refl)))
+says-false false s = (λ e p. false≢true (s .1 p), λ n. refl)
+
 -- one number more
 all-more : {P : ℕ → Type 0} (a b : Bool) (n : ℕ) → Says a (P n) → Says b ((k : ℕ) → k < n → P k) → Says (a && b) ((k : ℕ) → k < suc n → P k)
 all-more {P} a b n s t = says-by (says-and a b s t) (λ x k h. go x k h (cmp k n)) (λ x. (x n (omega arith), λ k h. x k (omega arith)))

@@ -105,7 +105,7 @@ some-from (suc f) s h p = go (ℕ-discrete (s % 2) 1) (λ q. some-from f (s / 2)
     go (yes e) rec = (0, in-zero s .1 e)
     go (no e) rec = let (m, x) = rec (omega arith) in (suc m, in-suc s m .1 x)
 
-some-in : (s : ℕ) → 0 < s → (m : ℕ) × In m s
+pub some-in : (s : ℕ) → 0 < s → (m : ℕ) × In m s
 some-in s = some-from s s (omega arith)
 
 in-pos : (m s : ℕ) → In m s → 0 < s

@@ -100,6 +100,28 @@ unfolding onwards
 onwards-same (accepted x) f g same = same x refl
 onwards-same (refused n a b) f g same = refl
 
+-- what comes behind, in other words
+pub then-again : {A B : Type 0} (v : Verdict A) {w x : Verdict B} → w ≡ x → (v then w) ≡ (v then x)
+then-again v e = ap (λ w. v then w) e
+
+-- going on twice; going on from a test
+pub onwards-onwards : {A B C : Type 0} (v : Verdict A) (f : A → Verdict B) (g : B → Verdict C)
+    → onwards (onwards v f) g ≡ onwards v (λ x. onwards (f x) g)
+unfolding onwards
+onwards-onwards (accepted x) f g = refl
+onwards-onwards (refused n a b) f g = refl
+
+pub onwards-then : {A B : Type 0} (t : Test) (x : A) (g : A → Verdict B) → onwards (t then accepted x) g ≡ (t then g x)
+unfolding onwards _then_
+onwards-then (accepted y) x g = refl
+onwards-then (refused n a b) x g = refl
+
+-- nothing comes behind a test
+pub then-none : (v : Test) {w : Test} → w ≡ accepted tt → (v then w) ≡ v
+unfolding _then_
+then-none (accepted x) e = e
+then-none (refused n a b) e = refl
+
 -- three in a row, whichever two are put together first
 pub then-assoc : {A B C : Type 0} (u : Verdict A) (v : Verdict B) (w : Verdict C) → ((u then v) then w) ≡ (u then (v then w))
 unfolding _then_

@@ -1,16 +1,16 @@
 -- Document 02, No. 7: which number a refusal for its range names. "In RANGE, let b be the offset of the first byte of the first wrong number, in
 -- layout order".
 -- Assumes nothing.
-use Prim.Native.Nat.{ℕ, zero, suc, _+_, _*_, _<_}
+use Prim.Native.Nat.{ℕ, zero, suc, _+_, _*_, _<_, _≤_}
 use mathlib.Core.Path.{_≡_}
 use mathlib.Core.Bool.{true, false, cond}
 use mathlib.Core.List.{List, [], _∷_}
 use lib.Dec.{eqb}
 use lib.ListN.{length, getD}
-use Rattle.rules.specs.Table.{Op, Table}
+use Rattle.rules.specs.Table.{Op, Decider, decides, Table}
 use Rattle.rules.specs.Rows.{Ticks, Row}
 use Rattle.rules.specs.Bytes.{num8, num16, num32, opAt, rowAt}
-use Rattle.rules.specs.Judge.{Number, number, lenRanges, lenWrong, countRanges, countsWrong, setRanges, setsWrong, opRanges, opWrong, rowRanges, rowWrong, headOf, opsPlace}
+use Rattle.rules.specs.Judge.{Number, number, lenRanges, lenWrong, countRanges, countsWrong, setRanges, setsWrong, opRanges, opWrong, deciderRanges, rowRanges, rowWrong, headOf, opsPlace, Numbers, deciderOf}
 
 -- how many bytes the numbers before number k have: it begins that far behind the first
 unfoldable pub bytesBefore : ℕ → List Number → ℕ
@@ -43,20 +43,32 @@ unfoldable pub ReadFrom : List ℕ → ℕ → List Number → Type 0
 ReadFrom s place [] = Unit {0}
 ReadFrom s place (n ∷ ns) = (n .value ≡ numberAt (n .bytes) s place) × ReadFrom s (place + n .bytes) ns
 
--- what RANGE says of a table, by what stands before its operations and by each operation: the field at a has a wrong number, b is where the
--- first one begins, and no number of the fields before that one is wrong (`Ranges.none-wrong`: each is in its range)
-pub data Blames (H : Table) (step : ℕ → Op) (a b : ℕ) : Type 0 where
-  length-wrong : a ≡ 0 → Names (lenRanges (H .len)) a b → Blames H step a b
-  count-wrong : lenWrong (H .len) ≡ 0 → a ≡ 5 → Names (countRanges (H .boards) (H .cells) (H .modes)) a b → Blames H step a b
+-- what RANGE says of a table, by what stands before its operations, by each operation, and by who is named behind n operations: the field at a has
+-- a wrong number, b is where the first one begins, and no number of the fields before that one is wrong (`Ranges.none-wrong`: each is in its range)
+pub data Blames (H : Table) (step : ℕ → Op) (Behind : ℕ → Decider → Type 0) (a b : ℕ) : Type 0 where
+  length-wrong : a ≡ 0 → Names (lenRanges (H .len)) a b → Blames H step Behind a b
+  count-wrong : lenWrong (H .len) ≡ 0 → a ≡ 5 → Names (countRanges (H .boards) (H .cells) (H .modes)) a b → Blames H step Behind a b
   set-wrong : lenWrong (H .len) ≡ 0 → countsWrong (H .boards) (H .cells) (H .modes) ≡ 0 → a ≡ 11
-      → Names (setRanges (H .modes) (H .first ∷ H .follow)) a b → Blames H step a b
+      → Names (setRanges (H .modes) (H .first ∷ H .follow)) a b → Blames H step Behind a b
   step-wrong : lenWrong (H .len) ≡ 0 → countsWrong (H .boards) (H .cells) (H .modes) ≡ 0 → setsWrong (H .modes) (H .first ∷ H .follow) ≡ 0
       → (k : ℕ) → k < 32 → ((j : ℕ) → j < k → opWrong H (step j) ≡ 0) → a ≡ opsPlace (H .modes) + 21 * k
-      → Names (opRanges H (step k)) a b → Blames H step a b
+      → Names (opRanges H (step k)) a b → Blames H step Behind a b
+  decider-wrong : lenWrong (H .len) ≡ 0 → countsWrong (H .boards) (H .cells) (H .modes) ≡ 0 → setsWrong (H .modes) (H .first ∷ H .follow) ≡ 0
+      → (n : ℕ) → n ≤ 32 → ((j : ℕ) → j < n → opWrong H (step j) ≡ 0) → a ≡ opsPlace (H .modes) + 21 * n
+      → (who : Decider) → Behind n who → Names (deciderRanges n who) a b → Blames H step Behind a b
 
 -- the operation whose field comes as number k in a table's bytes
 abbrev pub stepAt : List ℕ → ℕ → Op
 stepAt s k = opAt s (opsPlace (headOf s .modes) + 21 * k)
+
+-- a field 05 stands behind n operations in a table's bytes, and names who decides
+abbrev pub FieldBehind : List ℕ → ℕ → Decider → Type 0
+FieldBehind s n who =
+    (num8 s (opsPlace (headOf s .modes) + 21 * n) ≡ 5) × (who ≡ decides (num8 s (opsPlace (headOf s .modes) + 21 * n + 3)))
+
+-- n operations are handed over, and who decides
+abbrev pub HandedBehind : Numbers → ℕ → Decider → Type 0
+HandedBehind N n who = (length (N .ops) ≡ n * 6) × (who ≡ deciderOf N)
 
 -- likewise of a reply, by its period and by each row
 pub data ReplyBlames (q : Ticks) (row : ℕ → Row) (a b : ℕ) : Type 0 where

@@ -4,6 +4,7 @@ pub mod Carry
 pub mod Tests
 pub mod Planners
 pub mod Pairs
+pub mod Deciders
+pub mod DeciderBefore
 pub mod Numbers
 pub mod Blamed
-pub mod RangeBefore

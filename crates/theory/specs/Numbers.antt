@@ -1,15 +1,25 @@
 -- A table handed over as numbers: the bytes that are written for it, and when its numbers fit their fields.
 -- Assumes nothing.
 use Prim.Native.Nat.{ℕ, _+_, _*_, _^_, _<_, _≤_}
+use mathlib.Core.Path.{_≡_}
 use mathlib.Core.List.{List, [], _∷_, _++_}
 use lib.ListN.{length, getD, drop}
-use Rattle.rules.specs.Table.{Op, Table}
-use Rattle.rules.specs.Bytes.{be16, be32, joined, opBytes, headBytes}
-use Rattle.rules.specs.Judge.{Numbers, opOfNumbers, headOfNumbers}
+use Rattle.rules.specs.Table.{Op, Decider, nobody, decides, Table}
+use Rattle.rules.specs.Bytes.{be16, be32, joined, opBytes, headBytes, deciderBytes}
+use Rattle.rules.specs.Judge.{Numbers, opOfNumbers, headOfNumbers, deciderOf}
 
 -- "six for each operation, in layout order"
 abbrev pub opNumbers : Op → List ℕ
 opNumbers o = o .start ∷ o .dur ∷ o .boards ∷ o .reads ∷ o .writes ∷ o .modes ∷ []
+
+-- the mark and the number of who decides
+abbrev pub markOf : Decider → ℕ
+markOf nobody = 0
+markOf (decides d) = 1
+
+abbrev pub numberOf : Decider → ℕ
+numberOf nobody = 0
+numberOf (decides d) = d
 
 -- a table handed over as numbers
 unfoldable pub numbersOf : Table → Numbers
@@ -23,6 +33,8 @@ numbersOf T =
       first = T .first;
       follow = T .follow;
       ops = joined opNumbers (T .ops);
+      mark = markOf (T .decider);
+      decider = numberOf (T .decider);
     }
 
 -- ---- "as if first written in this layout"
@@ -31,21 +43,22 @@ numbersOf T =
 abbrev cutBytes : List ℕ → List ℕ
 cutBytes there = 4 ∷ be16 18 ++ there
 
--- six numbers are an operation's field; what is left over at the end is one with numbers missing
-unfoldable pub opsBytes : List ℕ → List ℕ
-opsBytes [] = []
-opsBytes (t ∷ []) = cutBytes (be16 t)
-opsBytes (t ∷ d ∷ []) = cutBytes (be16 t ++ be16 d)
-opsBytes (t ∷ d ∷ b ∷ []) = cutBytes (be16 t ++ be16 d ++ be16 b)
-opsBytes (t ∷ d ∷ b ∷ r ∷ []) = cutBytes (be16 t ++ be16 d ++ be16 b ++ be32 r)
-opsBytes (t ∷ d ∷ b ∷ r ∷ w ∷ []) = cutBytes (be16 t ++ be16 d ++ be16 b ++ be32 r ++ be32 w)
-opsBytes (t ∷ d ∷ b ∷ r ∷ w ∷ m ∷ ns) =
-    opBytes (record { start = t; dur = d; boards = b; reads = r; writes = w; modes = m }) ++ opsBytes ns
+-- six numbers are an operation's field; what is left over at the end is one with numbers missing, and with it the input ends. Behind whole
+-- operations comes what is last.
+unfoldable pub opsBytes : List ℕ → List ℕ → List ℕ
+opsBytes last [] = last
+opsBytes last (t ∷ []) = cutBytes (be16 t)
+opsBytes last (t ∷ d ∷ []) = cutBytes (be16 t ++ be16 d)
+opsBytes last (t ∷ d ∷ b ∷ []) = cutBytes (be16 t ++ be16 d ++ be16 b)
+opsBytes last (t ∷ d ∷ b ∷ r ∷ []) = cutBytes (be16 t ++ be16 d ++ be16 b ++ be32 r)
+opsBytes last (t ∷ d ∷ b ∷ r ∷ w ∷ []) = cutBytes (be16 t ++ be16 d ++ be16 b ++ be32 r ++ be32 w)
+opsBytes last (t ∷ d ∷ b ∷ r ∷ w ∷ m ∷ ns) =
+    opBytes (record { start = t; dur = d; boards = b; reads = r; writes = w; modes = m }) ++ opsBytes last ns
 
--- the fields 01, 02 and 03, with as many follower words as there are, and the operations' fields
+-- the fields 01, 02 and 03, with as many follower words as there are, the operations' fields, and the decider's where it is marked
 unfoldable pub numbersBytes : Numbers → List ℕ
 unfolding joined opsBytes
-numbersBytes N = headBytes (headOfNumbers N) ++ opsBytes (N .ops)
+numbersBytes N = headBytes (headOfNumbers N) ++ opsBytes (deciderBytes (deciderOf N)) (N .ops)
 
 -- ---- numbers that fit their fields
 
@@ -81,3 +94,4 @@ pub record NumbersFit (N : Numbers) : Type 0 where
   pub sets : SetsFit N
   pub size : 4 + 4 * length (N .follow) < 65536
   pub each : (k : ℕ) → 6 * k + 6 ≤ length (N .ops) → OpFits (opAmong (N .ops) k)
+  pub decider : (d : ℕ) → deciderOf N ≡ decides d → d < 256

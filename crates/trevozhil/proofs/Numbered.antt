@@ -1,4 +1,4 @@
--- No refusal has the number 0, nor one above 9: of tables, replies, questions and answers.
+-- No refusal has the number 0, nor one above 10: of tables, replies, questions and answers.
 -- Assumes nothing.
 use Prim.Native.Nat.{ℕ, _<_, _≤_}
 use mathlib.Core.Path.{sym, subst, subst⁻¹}
@@ -17,7 +17,7 @@ use Rattle.theory.proofs.Asking.{margin-row}
 
 -- the numbers of refusals
 abbrev Refuses : ℕ → Type 0
-Refuses number = (1 ≤ number) × (number ≤ 9)
+Refuses number = (1 ≤ number) × (number ≤ 10)
 
 -- a verdict that, where it refuses, has the number of a refusal
 pub data Numbered {A : Type 0} : Verdict A → Type 0 where

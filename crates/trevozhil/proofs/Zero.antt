@@ -1,4 +1,4 @@
--- 0 is told of success alone, by each function for C; every other number that it returns is that of a refusal, 1 to 9.
+-- 0 is told of success alone, by each function for C; every other number that it returns is that of a refusal, 1 to 10.
 -- Assumes nothing.
 use Prim.Native.Nat.{ℕ, _≤_, _<_}
 use mathlib.Core.Path.{_≡_, refl, sym, ap, subst⁻¹, _∙_}
@@ -24,23 +24,23 @@ use Rattle.telling.specs.Telling.{toldOf, unwritten, yesOf, Ended, ended, ended
 use Rattle.calls.specs.Calls.{JudgeTells, NumbersTell, WriteEnds, PlanEnds, FoldEnds, UnfoldEnds, PeriodTells, YesNoTells, BoardsTell, ValuesTell, MarginEnds}
 use Rattle.trevozhil.proofs.Numbered.{Numbered, good, bad, then-numbered, onwards-numbered, judge-numbered, numbers-numbered, reply-numbered, asked-table-numbered, margin-numbered, put-numbered, answers-numbered}
 
--- 0 is told exactly where P holds, and no number above 9
+-- 0 is told exactly where P holds, and no number above 10
 pub record ZeroAlone (f : Figures) (P : Type 0) : Type 0 where
   pub success : f .number ≡ 0 → P
   pub zero : P → f .number ≡ 0
-  pub nine : f .number ≤ 9
+  pub ten : f .number ≤ 10
 
 -- ---- the one law: of every verdict whose refusals are numbered
 told-zero : (v : Verdict ℕ) → Numbered v → ZeroAlone (toldOf v) ((n : ℕ) × (v ≡ accepted n))
-told-zero (accepted n) good = record { success = λ e. (n, refl); zero = λ x. refl; nine = omega arith }
+told-zero (accepted n) good = record { success = λ e. (n, refl); zero = λ x. refl; ten = omega arith }
 told-zero (refused number a b) (bad h) =
-    record { success = λ e. absurd (omega (arith, e, h .0)); zero = λ x. never-refused (x .1); nine = h .1 }
+    record { success = λ e. absurd (omega (arith, e, h .0)); zero = λ x. never-refused (x .1); ten = h .1 }
 
 -- the same in other words
 zero-as : {f g : Figures} {P Q : Type 0} → g ≡ f → ZeroAlone f P → (P → Q) → (Q → P) → ZeroAlone g Q
 zero-as {f} {g} {P} {Q} e z to from =
     subst⁻¹ (λ (h : Figures). ZeroAlone h Q) e
-    (record { success = λ n. to (z .success n); zero = λ x. z .zero (from x); nine = z .nine })
+    (record { success = λ n. to (z .success n); zero = λ x. z .zero (from x); ten = z .ten })
 
 -- of a verdict that is handed on
 onwards-zero : {A : Type 0} (v : Verdict A) (g : A → ℕ) → Numbered v
@@ -109,7 +109,7 @@ written-zero f (refused number a b) out l (bad h) e =
           record {
             success = λ n. absurd (omega (arith, n, number-is, h .0));
             zero = λ (y, same, room). never-refused same;
-            nine = omega (arith, number-is, h .1);
+            ten = omega (arith, number-is, h .1);
           };
       front = λ y same room. never-refused same;
     }

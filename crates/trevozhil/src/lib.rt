@@ -22,12 +22,26 @@ pub extern "C" fn trevozhil_judge_numbers(
     first: u64,
     follow: &[u64],
     ops: &[u64],
+    mark: u64,
+    decider: u64,
     a: &mut u64,
     b: &mut u64,
 ) -> u32
-    ensures { λ r. ⌜ NumbersTell (numbers p boards cells modes first (now (follow .entry)) (now (ops .entry))) (figuresOf r (now (a .exit)) (now (b .exit))) ⌝ }
+    ensures { λ r. ⌜ NumbersTell (numbers p boards cells modes first (now (follow .entry)) (now (ops .entry)) mark decider) (figuresOf r (now (a .exit)) (now (b .exit))) ⌝ }
 {
-    calls::judge_numbers(p, boards, cells, modes, first, follow, ops, a, b)
+    calls::judge_numbers(
+        p,
+        boards,
+        cells,
+        modes,
+        first,
+        follow,
+        ops,
+        mark,
+        decider,
+        a,
+        b,
+    )
 }
 
 // A table that is handed over as numbers, judged and written.
@@ -40,13 +54,28 @@ pub extern "C" fn trevozhil_write(
     first: u64,
     follow: &[u64],
     ops: &[u64],
+    mark: u64,
+    decider: u64,
     out: &mut [u8],
     a: &mut u64,
     b: &mut u64,
 ) -> u32
-    ensures { λ r. ⌜ WriteEnds (numbers p boards cells modes first (now (follow .entry)) (now (ops .entry))) (now (out .entry)) (ended (figuresOf r (now (a .exit)) (now (b .exit))) (now (out .exit))) ⌝ }
+    ensures { λ r. ⌜ WriteEnds (numbers p boards cells modes first (now (follow .entry)) (now (ops .entry)) mark decider) (now (out .entry)) (ended (figuresOf r (now (a .exit)) (now (b .exit))) (now (out .exit))) ⌝ }
 {
-    calls::write(p, boards, cells, modes, first, follow, ops, out, a, b)
+    calls::write(
+        p,
+        boards,
+        cells,
+        modes,
+        first,
+        follow,
+        ops,
+        mark,
+        decider,
+        out,
+        a,
+        b,
+    )
 }
 
 // The period of a table.

@@ -147,7 +147,7 @@ row-turns T n row by m b = (
 
 -- ---- what a run can reach, by first modes and followers alone
 abbrev turning : ℕ → List ℕ → rules.Table
-turning first F = record { len = 0; boards = 0; cells = 0; modes = 0; first = first; follow = F; ops = [] }
+turning first F = record { len = 0; boards = 0; cells = 0; modes = 0; first = first; follow = F; ops = []; decider = rules.nobody }
 
 reach-of : (T : rules.Table) (F : List ℕ) → TurnsOf T F → {a : ℕ} → Reach (turning (T .first) F) a → Reach T a
 unfolding via

@@ -1,11 +1,12 @@
-// All the pairs of a table's operations: the first clash, the first race, and the judgement of the whole table by them.
+// All the pairs of a table's operations: the first clash, the first race; and the judgement of the whole table, by them and by its decider.
 ghost use mathlib.Core.Path.{_≡_};
 ghost use Prim.Native.Nat.{_≤_};
 ghost use Rattle.rules.specs.Verdicts.{CLASH, RACE};
 ghost use Rattle.rules.specs.Judge.{clashes, races, pairsTest, judgeWhole};
 ghost use Rattle.fields.specs.Verdicts.{tested};
 ghost use Rattle.table.specs.Tables.{tableOf, tableIn, JudgedAs};
-ghost use Rattle.whole.specs.Whole.{wholeTest, wholeOn, Tidy};
+ghost use Rattle.early.specs.Early.{Named};
+ghost use Rattle.whole.specs.Whole.{bothTests, wholeTest, wholeOn, Ready};
 use fields::Refusal;
 use fields::Verdict;
 use table::Judged;
@@ -56,7 +57,7 @@ fn first_race(t: Table) -> Verdict
 // The tests over all pairs: any clash comes before any race.
 fn pairs_test(t: Table) -> Verdict
     requires { ⌜ t .count ≤ 32 ⌝ }
-    ensures { λ r. ⌜ tested r ≡ wholeTest (tableOf t) ⌝ }
+    ensures { λ r. ⌜ tested r ≡ bothTests (tableOf t) ⌝ }
 {
     let first = first_clash(t);
     match first {
@@ -65,12 +66,24 @@ fn pairs_test(t: Table) -> Verdict
     }
 }
 
-// The judgement of the pairs, of a table that is zero where nothing counts.
-fn judge_pairs(t: Table) -> Judged
-    requires { ⌜ t ≡ tableIn (tableOf t) ⌝ }
+// All tests of the whole: the decider is asked for only where no pair is refused.
+fn whole_test(t: Table) -> Verdict
+    requires { ⌜ (t .count ≤ 32) × (t .modes ≤ 32) × Named t ⌝ }
+    ensures { λ r. ⌜ tested r ≡ wholeTest (tableOf t) ⌝ }
+{
+    let first = pairs_test(t);
+    match first {
+        Verdict::Accepted => early::early_test(t),
+        Verdict::Refused(q) => Verdict::Refused(q),
+    }
+}
+
+// The judgement of the whole, of a table that is zero where nothing counts.
+fn judge_table(t: Table) -> Judged
+    requires { ⌜ (t ≡ tableIn (tableOf t)) × (t .modes ≤ 32) × Named t ⌝ }
     ensures { λ r. ⌜ JudgedAs (judgeWhole (tableOf t)) r ⌝ }
 {
-    let v = pairs_test(t);
+    let v = whole_test(t);
     match v {
         Verdict::Refused(q) => table::deny(q),
         Verdict::Accepted => Judged {
@@ -80,9 +93,9 @@ fn judge_pairs(t: Table) -> Judged
     }
 }
 
-// A table whose fields are judged, judged whole: a refusal stays, and of an accepted table the pairs decide.
+// A table whose fields are judged, judged whole: a refusal stays.
 pub fn judge(j: Judged) -> Judged
-    requires { ⌜ Tidy j ⌝ }
+    requires { ⌜ Ready j ⌝ }
     ensures { λ r. ⌜ JudgedAs (wholeOn j) r ⌝ }
 {
     let v = j.verdict;
@@ -90,7 +103,7 @@ pub fn judge(j: Judged) -> Judged
         Verdict::Refused(q) => table::deny(q),
         Verdict::Accepted => {
             let t = j.table;
-            judge_pairs(t)
+            judge_table(t)
         }
     }
 }

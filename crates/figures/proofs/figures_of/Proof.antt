@@ -58,6 +58,12 @@ enum-known-r-9 c = search needs
 numbered-requires-9 : tie.Need-numbered-requires-9
 numbered-requires-9 c κs = search needs
 
+enum-known-r-10 : tie.Need-enum-known-r-10
+enum-known-r-10 c = search needs
+
+numbered-requires-10 : tie.Need-numbered-requires-10
+numbered-requires-10 c κs = search needs
+
 returns : tie.Need-returns
 returns c = rw (c .numbered .ensures, c .before .before .r .given .1)
 
@@ -85,6 +91,9 @@ returns-8 c = rw (c .numbered8 .ensures, c .before .before .r8 .given .1)
 returns-9 : tie.Need-returns-9
 returns-9 c = rw (c .numbered9 .ensures, c .before .before .r9 .given .1)
 
+returns-10 : tie.Need-returns-10
+returns-10 c = rw (c .numbered10 .ensures, c .before .before .r10 .given .1)
+
 pub figures-of-spec : {M : Type 1} → statement M
 figures-of-spec =
     tie.close
@@ -107,6 +116,8 @@ figures-of-spec =
     numbered-requires-8
     enum-known-r-9
     numbered-requires-9
+    enum-known-r-10
+    numbered-requires-10
     returns
     returns-2
     returns-3
@@ -115,4 +126,5 @@ figures-of-spec =
     returns-6
     returns-7
     returns-8
-    returns-9)
+    returns-9
+    returns-10)

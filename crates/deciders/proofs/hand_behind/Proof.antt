@@ -1,0 +1,89 @@
+-- With the mark unset nobody decides; else the number is one of the operations, or is refused where its field would stand.
+-- Assumes nothing.
+use Prim.Native.Nat.{_≤_}
+use mathlib.Core.Path.{_≡_, sym, _∙_}
+use native.Mathlib.Omega.{arith}
+use lib.ListN.{length, length-map}
+use borrow.Author.Needs.{needs}
+use borrow.Author.Tests.{eq-eqb, ne-eqb}
+use Rattle.rules.specs.Table.{nobody, decides}
+use Rattle.theory.proofs.Ranges.{decider-within}
+use Rattle.table.specs.Tables.{tableOf}
+use Rattle.table.specs.TableLaws.{kept-few}
+use Rattle.deciders.specs.DeciderLaws.{handed-bad, handed-fine, nobody-fine, count-is, end-is}
+use Rattle.deciders.proofs.hand_behind.Statement.{statement}
+use Rattle.deciders.proofs.hand_behind.Tie as tie
+
+named-requires : tie.Need-named-requires
+named-requires c κs = c .before .pre
+
+returns : tie.Need-returns
+returns c =
+    let s = c .before .before in
+    let t = s .args .t in
+    let long : length (t .ops) ≡ 32 = simp length-map at (s .good .0 .1 .1 .1 .1 .1 .1 .1 .1 .0 .1 .0 .1) in
+    let full : t .count ≤ length (t .ops) = omega (arith, kept-few t long (s .pre)) in
+    let unset : s .args .mark ≡ 0 = omega (arith, c .before .if1 .taken) in
+    rw (eq-eqb (s .args .mark) 0 unset, handed-fine (tableOf t) (count-is t full) nobody (nobody-fine _)) (c .named .ensures)
+
+decider-wrong-requires : tie.Need-decider-wrong-requires
+decider-wrong-requires c κs = search needs
+
+ops-end-requires : tie.Need-ops-end-requires
+ops-end-requires c κs =
+    let s = c .before .before .before in
+    let long : length (s .args .t .ops) ≡ 32 = simp length-map at (s .good .0 .1 .1 .1 .1 .1 .1 .1 .1 .0 .1 .0 .1) in
+    kept-few (s .args .t) long (s .pre)
+
+add-t8 : tie.Need-add-t8
+add-t8 c =
+    let s = c .before .before .before .before in
+    let long : length (s .args .t .ops) ≡ 32 = simp length-map at (s .good .0 .1 .1 .1 .1 .1 .1 .1 .1 .0 .1 .0 .1) in
+    omega (arith, decider-within _ _ (c .before .before .decider-wrong .ensures), kept-few (s .args .t) long (s .pre), c .ops-end .ensures)
+
+deny-requires : tie.Need-deny-requires
+deny-requires c κs = search needs
+
+returns-2 : tie.Need-returns-2
+returns-2 c =
+    let o = c .before in
+    let d = o .before .before in
+    let s = d .before .before in
+    let t = s .args .t in
+    let long : length (t .ops) ≡ 32 = simp length-map at (s .good .0 .1 .1 .1 .1 .1 .1 .1 .1 .0 .1 .0 .1) in
+    let full : t .count ≤ length (t .ops) = omega (arith, kept-few t long (s .pre)) in
+    rw (
+      ne-eqb (s .args .mark) 0 (d .before .if1 .left),
+      handed-bad (tableOf t) (end-is t full (o .ops-end .ensures)) (count-is t full) (decides (s .args .decider)) (d .decider-wrong .ensures) (o .before .if2 .taken),
+    )
+    (c .deny .ensures)
+
+named-requires-2 : tie.Need-named-requires-2
+named-requires-2 c κs = c .before .before .before .pre
+
+returns-3 : tie.Need-returns-3
+returns-3 c =
+    let d = c .before .before in
+    let s = d .before .before in
+    let t = s .args .t in
+    let long : length (t .ops) ≡ 32 = simp length-map at (s .good .0 .1 .1 .1 .1 .1 .1 .1 .1 .0 .1 .0 .1) in
+    let full : t .count ≤ length (t .ops) = omega (arith, kept-few t long (s .pre)) in
+    rw (
+      ne-eqb (s .args .mark) 0 (d .before .if1 .left),
+      handed-fine (tableOf t) (count-is t full) (decides (s .args .decider)) (sym (d .decider-wrong .ensures) ∙ c .before .if2 .left),
+    )
+    (c .named2 .ensures)
+
+pub hand-behind-spec : {M : Type 1} → statement M
+hand-behind-spec =
+    tie.close
+    (tie.spec
+    named-requires
+    returns
+    decider-wrong-requires
+    ops-end-requires
+    add-t8
+    deny-requires
+    returns-2
+    named-requires-2
+    returns-3)

@@ -1,0 +1,81 @@
+-- The field is judged at the place where the operations end, and who it names goes into the table.
+-- Assumes nothing.
+use denote.Ref.{now}
+use Prim.Native.Nat.{_≤_}
+use mathlib.Core.Path.{_≡_, sym}
+use native.Mathlib.Omega.{arith}
+use lib.ListN.{length, length-map}
+use borrow.Author.Needs.{needs}
+use Rattle.fields.specs.RefusalLaws.{passed-as, refused-as}
+use Rattle.table.specs.Tables.{tableOf}
+use Rattle.table.specs.TableLaws.{kept-few}
+use Rattle.deciders.specs.DeciderLaws.{test-whole, behind-bad, behind-fine, count-is, end-is}
+use Rattle.deciders.proofs.read_behind.Statement.{statement}
+use Rattle.deciders.proofs.read_behind.Tie as tie
+
+ops-end-requires : tie.Need-ops-end-requires
+ops-end-requires c κs =
+    let s = c .before in
+    let long : length (s .args .t .ops) ≡ 32 = simp length-map at (s .good .1 .0 .1 .1 .1 .1 .1 .1 .1 .1 .0 .1 .0 .1) in
+    kept-few (s .args .t) long (s .pre)
+
+field-test-requires : tie.Need-field-test-requires
+field-test-requires c κs = search needs
+
+enum-known-v : tie.Need-enum-known-v
+enum-known-v c = search needs
+
+deny-requires : tie.Need-deny-requires
+deny-requires c κs = search needs
+
+enum-told : tie.Need-enum-told
+enum-told c = search needs
+
+who-at-requires : tie.Need-who-at-requires
+who-at-requires c κs = test-whole _ _ _ (sym (passed-as (c .before .before .field-test .ensures) (c .enum-told .given .1)))
+
+named-requires : tie.Need-named-requires
+named-requires c κs = c .before .before .before .before .before .before .pre
+
+returns : tie.Need-returns
+returns c =
+    let v = c .before .before in
+    let f = v .before .before in
+    let o = f .before in
+    let s = o .before .before in
+    let t = s .args .t in
+    let long : length (t .ops) ≡ 32 = simp length-map at (s .good .1 .0 .1 .1 .1 .1 .1 .1 .1 .1 .0 .1 .0 .1) in
+    let full : t .count ≤ length (t .ops) = omega (arith, kept-few t long (s .pre)) in
+    rw
+    (behind-bad (tableOf t) (end-is t full (o .ops-end .ensures)) (count-is t full) (now (s .args .s)) (v .v .given .0 .0)
+    (refused-as (f .field-test .ensures) (v .v .given .1)))
+    (c .deny .ensures)
+
+returns-2 : tie.Need-returns-2
+returns-2 c =
+    let w = c .before in
+    let e = w .before in
+    let f = e .before .before in
+    let o = f .before in
+    let s = o .before .before in
+    let t = s .args .t in
+    let long : length (t .ops) ≡ 32 = simp length-map at (s .good .1 .0 .1 .1 .1 .1 .1 .1 .1 .1 .0 .1 .0 .1) in
+    let full : t .count ≤ length (t .ops) = omega (arith, kept-few t long (s .pre)) in
+    rw
+    (behind-fine (tableOf t) (end-is t full (o .ops-end .ensures)) (count-is t full) (now (s .args .s))
+    (passed-as (f .field-test .ensures) (e .enum-told .given .1)) (w .who-at .ensures))
+    (c .named .ensures)
+
+pub read-behind-spec : {M : Type 1} → statement M
+read-behind-spec =
+    tie.close
+    (tie.spec
+    ops-end-requires
+    field-test-requires
+    enum-known-v
+    deny-requires
+    enum-told
+    who-at-requires
+    named-requires
+    returns
+    returns-2)
