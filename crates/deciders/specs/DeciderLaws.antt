@@ -9,26 +9,23 @@ use lib.ListN.{length}
 use borrow.Author.Tests.{le-leb, lt-leb, leb-true, lt-ltb, le-ltb}
 use Rattle.rules.specs.Table as rules
 use Rattle.rules.specs.Table.{nobody, decides, nops}
-use Rattle.rules.specs.Verdicts.{Verdict, accepted, refused, SHORT, ORDER, RANGE, _then_}
+use Rattle.rules.specs.Verdicts.{accepted, refused, SHORT, ORDER, RANGE, _then_}
 use Rattle.rules.specs.Bytes.{num8}
 use Rattle.rules.specs.Judge.{ranged, header, fieldTest, deciderWrong, withDecider, opsPlace, opsEnd, nothingDue, deciderAt, deciderTest}
-use Rattle.theory.proofs.Verdicts.{passes, refuses, then-accepts, then-refuses, then-first, onwards-accepts}
+use Rattle.theory.proofs.Verdicts.{passes, refuses, then-accepts, then-refuses, then-first}
 use Rattle.theory.proofs.Ranges.{ranged-yes, ranged-no}
 use Rattle.theory.proofs.Judging.{both, field-passed, says-decider, decider-row, nothing-row}
-use Rattle.fields.specs.Verdicts.{refusalOf, verdictOn}
+use Rattle.fields.specs.Verdicts.{refusalOf}
 use Rattle.fields.specs.declared.Refusal.{Refusal}
-use Rattle.fields.specs.declared.Verdict as heard
-use Rattle.fields.specs.declared.Verdict.the-variants.{Accepted, Refused}
 use Rattle.fields.specs.Fields.{fieldOf}
 use Rattle.fields.specs.FieldLaws.{field-bad, field-ranged}
-use Rattle.fields.specs.RefusalLaws.{then-refusal, onwards-refusal}
+use Rattle.fields.specs.RefusalLaws.{then-refusal}
 use Rattle.table.specs.Tables.{whoOf, whoIn, tableOf, tableIn}
 use Rattle.table.specs.TableLaws.{nops-count}
 use Rattle.table.specs.declared.Decider.{Decider}
 use Rattle.table.specs.declared.Decider.the-variants.{Nobody, Decides}
 use Rattle.table.specs.declared.Table.{Table}
-use Rattle.table.specs.declared.Judged.{Judged}
-use Rattle.deciders.specs.Deciders.{behindOf, handedOf, goingOn}
+use Rattle.deciders.specs.Deciders.{behindOf, handedOf}
 
 -- ---- nothing is due behind the field
 
@@ -158,11 +155,3 @@ module _ (t : Table) (full : t .count ≤ length (t .ops)) where
 -- nobody is never wrong
 pub nobody-fine : (n : ℕ) → deciderWrong n nobody ≡ 0
 nobody-fine n = says-decider n nobody .1 (λ d e. let z : _≡_ {A = ℕ} 0 1 = cc in absurd (omega arith))
-
--- ---- a table whose fields before are judged
-module _ (j : Judged) (f : rules.Table → Verdict rules.Table) where
-  pub before-refused : (q : Refusal) → j .verdict ≡ Refused q → goingOn j f ≡ refusalOf q
-  before-refused q e = onwards-refusal q f (ap (λ (v : heard.Verdict). verdictOn v (tableOf (j .table))) e)
-
-  pub before-accepted : j .verdict ≡ Accepted → goingOn j f ≡ f (tableOf (j .table))
-  before-accepted e = onwards-accepts f (ap (λ (v : heard.Verdict). verdictOn v (tableOf (j .table))) e)

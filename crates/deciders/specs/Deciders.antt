@@ -5,11 +5,8 @@ use mathlib.Core.Bool.{cond}
 use mathlib.Core.List.{List}
 use lib.Dec.{eqb}
 use Rattle.rules.specs.Table.{Decider, nobody, decides, Table, nops}
-use Rattle.rules.specs.Verdicts.{Verdict, accepted, _then_, onwards}
+use Rattle.rules.specs.Verdicts.{Verdict, accepted, _then_}
 use Rattle.rules.specs.Judge.{ranged, deciderWrong, withDecider, opsEnd, deciderAt, deciderTest}
-use Rattle.fields.specs.Verdicts.{verdictOn}
-use Rattle.table.specs.Tables.{tableOf}
-use Rattle.table.specs.declared.Judged.{Judged}
 
 -- by the bytes behind its operations
 unfoldable pub behindOf : List ℕ → Table → Verdict Table
@@ -22,7 +19,3 @@ markedBy mark d = cond (eqb mark 0) nobody (decides d)
 -- by who is handed over
 unfoldable pub handedOf : Decider → Table → Verdict Table
 handedOf who T = ranged (deciderWrong (nops T) who) (opsEnd T) then accepted (withDecider T who)
-
--- a refusal of the fields before stays; a table that they accept goes on
-abbrev pub goingOn : Judged → (Table → Verdict Table) → Verdict Table
-goingOn j f = onwards (verdictOn (j .verdict) (tableOf (j .table))) f

@@ -10,15 +10,15 @@ use Rattle.rules.specs.Judge.{ranged, deciderWrong, Numbers, headOfNumbers, dec
 use Rattle.theory.proofs.Verdicts.{then-first, then-rest, then-onwards, onwards-first, onwards-onwards, onwards-then, onwards-same}
 use Rattle.theory.proofs.Ranges.{range-passed}
 use Rattle.theory.proofs.Judging.{says-decider, judgeNumbers-row, judgeDecider-row}
-use Rattle.table.specs.Tables.{JudgedAs, Tidy, tableOf, tableIn}
+use Rattle.table.specs.Tables.{JudgedAs, goingOn, Tidy, tableOf, tableIn}
 use Rattle.table.specs.TableLaws.{table-back}
-use Rattle.table.specs.JudgedLaws.{judged-on, judged-tidy}
+use Rattle.table.specs.JudgedLaws.{judged-tidy, going-by}
 use Rattle.table.specs.declared.Table as code
 use Rattle.table.specs.declared.Judged.{Judged}
-use Rattle.deciders.specs.Deciders.{handedOf, goingOn}
+use Rattle.deciders.specs.Deciders.{handedOf}
 use Rattle.handed_ops.specs.HandedOps.{handedOps, SmallCounts, Bare}
 use Rattle.whole.specs.Whole.{wholeOn, Ready}
-use Rattle.whole.specs.WholeLaws.{Fit, ready-by}
+use Rattle.whole.specs.WholeLaws.{Fit, ready-by, whole-by}
 use Rattle.handed.specs.Handed.{numbersVerdict, wholeVerdict, Small}
 use Rattle.handed.specs.HeadLaws.{test-small}
 
@@ -57,8 +57,7 @@ module _ (N : Numbers) where
 
   pub numbers-behind : {r : Judged} → JudgedAs (numbersVerdict (without N)) r → goingOn r (handedOf (deciderOf N)) ≡ wholeVerdict N
   unfolding wholeVerdict
-  numbers-behind j =
-      ap (λ (v : Verdict Table). onwards v (handedOf (deciderOf N))) (judged-on j (λ T e. numbers-words T (sym without-same ∙ e) .0) ∙ without-same)
+  numbers-behind j = going-by j (λ T e. numbers-words T (sym without-same ∙ e) .0) (handedOf (deciderOf N)) ∙ ap (λ (v : Verdict Table). onwards v (handedOf (deciderOf N))) without-same
 
   -- a table that all numbers accept
   handed-fit : (T U : Table) → length (T .follow) ≡ T .modes → T .modes ≤ 32 → handedOf (deciderOf N) T ≡ accepted U → Fit U
@@ -97,7 +96,7 @@ module _ (N : Numbers) where
   whole-ready j = ready-by j whole-fit
 
   pub numbers-whole : {r : Judged} → JudgedAs (wholeVerdict N) r → judgeNumbers N ≡ wholeOn r
-  numbers-whole j = numbers-pairs ∙ ap (λ (v : Verdict Table). onwards v judgeWhole) (sym (judged-on j (λ T e. whole-fit T e .words)))
+  numbers-whole j = numbers-pairs ∙ sym (whole-by j whole-fit)
 
 -- ---- the table before the operations, as the code holds it
 module _ (H : Table) {t : code.Table} (e : t ≡ tableIn (withOps H [])) (small : Small H) where

@@ -1,22 +1,22 @@
 -- How the judge goes on from the verdict on the fields, and what that verdict accepts.
 -- Assumes nothing.
 use Prim.Native.Nat.{ℕ, _≤_}
-use mathlib.Core.Path.{_≡_, sym, ap, subst, _∙_}
+use mathlib.Core.Path.{_≡_, sym, subst, _∙_}
 use mathlib.Core.List.{List}
 use native.Mathlib.Omega.{arith}
 use lib.ListN.{length}
 use Rattle.rules.specs.Table.{Table, nops}
-use Rattle.rules.specs.Verdicts.{Verdict, accepted, onwards}
+use Rattle.rules.specs.Verdicts.{accepted, onwards}
 use Rattle.rules.specs.Judge.{headOf, withOps, withDecider, opsPlace, opsEnd, headTest, opsFrom, deciderAt, deciderTest, judgeBehind, judgeWhole, judge}
 use Rattle.theory.proofs.Verdicts.{then-first, then-rest, then-onwards, onwards-first, onwards-onwards, onwards-then, onwards-same}
 use Rattle.theory.proofs.Lengths.{modes-few}
 use Rattle.theory.proofs.Judging.{head-ok, says-decider, judge-row, behind-row, ops-ended, decider-passed}
 use Rattle.table.specs.declared.Judged.{Judged}
-use Rattle.table.specs.Tables.{JudgedAs, Tidy}
-use Rattle.table.specs.JudgedLaws.{judged-on, judged-tidy}
-use Rattle.deciders.specs.Deciders.{behindOf, goingOn}
+use Rattle.table.specs.Tables.{JudgedAs, goingOn, Tidy}
+use Rattle.table.specs.JudgedLaws.{judged-tidy, going-by}
+use Rattle.deciders.specs.Deciders.{behindOf}
 use Rattle.whole.specs.Whole.{wholeOn, Ready}
-use Rattle.whole.specs.WholeLaws.{Fit, ready-by}
+use Rattle.whole.specs.WholeLaws.{Fit, ready-by, whole-by}
 use Rattle.reading.specs.Reading.{opsVerdict, fieldsVerdict, wholeVerdict}
 
 module _ (s : List ℕ) where
@@ -42,7 +42,7 @@ module _ (s : List ℕ) where
 
   pub fields-behind : {r : Judged} → JudgedAs (fieldsVerdict s) r → goingOn r (behindOf s) ≡ wholeVerdict s
   unfolding wholeVerdict
-  fields-behind j = ap (λ (v : Verdict Table). onwards v (behindOf s)) (judged-on j (λ T e. fields-read T e .words))
+  fields-behind j = going-by j (λ T e. fields-read T e .words) (behindOf s)
 
   -- a table that all fields accept
   behind-fit : (T U : Table) → Read T → behindOf s T ≡ accepted U → Fit U
@@ -77,4 +77,4 @@ module _ (s : List ℕ) where
   whole-ready j = ready-by j whole-fit
 
   pub fields-whole : {r : Judged} → JudgedAs (wholeVerdict s) r → judge s ≡ wholeOn r
-  fields-whole j = judge-fields ∙ ap (λ (v : Verdict Table). onwards v judgeWhole) (sym (judged-on j (λ T e. whole-fit T e .words)))
+  fields-whole j = judge-fields ∙ sym (whole-by j whole-fit)

@@ -365,8 +365,8 @@ opsOfNumbers T ns (suc left) at =
     then ranged (opWrong T (opOfNumbers ns)) at
     then more (opOfNumbers ns) (opsOfNumbers T (drop 6 ns) left (at + 21)))
 
--- the decider, at the place that its field would have, and then the table as a whole. No byte is too small for the number of an operation, so that a
--- number too large for it is none.
+-- the decider, at the place that its field would have, and then the table as a whole. Every operation's number fits a byte, so a number that is too
+-- large for it is none.
 unfoldable pub judgeDecider : Decider → Table → Verdict Table
 unfolding ranged deciderWrong judgeWhole _then_
 judgeDecider who T = ranged (deciderWrong (nops T) who) (opsEnd T) then judgeWhole (withDecider T who)

@@ -4,14 +4,14 @@ use mathlib.Core.Path.{_≡_, refl, sym, ap, subst⁻¹, _∙_}
 use lib.ListN.{length}
 use Rattle.rules.specs.Table.{Table, Accepted}
 use Rattle.rules.specs.Verdicts.{Verdict, accepted, refused, onwards}
-use Rattle.theory.proofs.Verdicts.{never-refused}
+use Rattle.theory.proofs.Verdicts.{never-refused, onwards-accepts}
 use Rattle.fields.specs.Verdicts.{refusalOf, verdictOn, tested}
-use Rattle.fields.specs.RefusalLaws.{refusal-is, heard-refusal}
+use Rattle.fields.specs.RefusalLaws.{refusal-is, heard-refusal, onwards-refusal}
 use Rattle.fields.specs.declared.Refusal.{Refusal}
 use Rattle.fields.specs.declared.Verdict as heard
 use Rattle.fields.specs.declared.Verdict.the-variants.{Refused}
 use Rattle.fields.specs.declared.Verdict.the-variants as said
-use Rattle.table.specs.Tables.{JudgedAs, tableOf, tableIn, noTable, Good}
+use Rattle.table.specs.Tables.{JudgedAs, tableOf, tableIn, noTable, goingOn, Good}
 use Rattle.table.specs.TableLaws.{table-back, good-in}
 use Rattle.table.specs.declared.Table as code
 use Rattle.table.specs.declared.Judged.{Judged}
@@ -63,6 +63,18 @@ module _ {v : Verdict Table} {r : Judged} (j : JudgedAs v r) (words : (T : Table
   judged-tidy e =
       let took = judged-accepted v r j e in
       took .held ∙ ap (λ (T : Table). tableIn T) (sym (took-back took (words (took .table) (took .said))))
+
+  -- so it goes on as the verdict does
+  pub going-by : (f : Table → Verdict Table) → goingOn r f ≡ onwards v f
+  going-by f = ap (λ (u : Verdict Table). onwards u f) judged-on
+
+-- ---- what is judged next
+module _ (j : Judged) (f : Table → Verdict Table) where
+  pub going-refused : (q : Refusal) → j .verdict ≡ Refused q → goingOn j f ≡ refusalOf q
+  going-refused q e = onwards-refusal q f (ap (λ (v : heard.Verdict). verdictOn v (tableOf (j .table))) e)
+
+  pub going-accepted : j .verdict ≡ said.Accepted → goingOn j f ≡ f (tableOf (j .table))
+  going-accepted e = onwards-accepts f (ap (λ (v : heard.Verdict). verdictOn v (tableOf (j .table))) e)
 
 -- an accepted table is one that the engine takes
 module _ {v : Verdict Table} {t : code.Table} (took : Took v t) (ok : Accepted (took .table)) where

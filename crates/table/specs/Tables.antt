@@ -8,7 +8,7 @@ use Rattle.rules.specs.Table as rules
 use Rattle.rules.specs.Table.{nops}
 use Rattle.rules.specs.Verdicts.{accepted, refused, onwards}
 use Rattle.rules.specs.Verdicts as verdicts
-use Rattle.fields.specs.Verdicts.{tested}
+use Rattle.fields.specs.Verdicts.{tested, verdictOn}
 use Rattle.fields.specs.declared.Verdict.the-variants.{Accepted}
 use Rattle.table.specs.declared.Op.{Op}
 use Rattle.table.specs.declared.Decider.{Decider}
@@ -126,6 +126,10 @@ tableFor (refused n a b) = noTable
 pub record JudgedAs (v : verdicts.Verdict rules.Table) (r : Judged) : Type 0 where
   pub said : tested (r .verdict) ≡ onwards v (λ T. accepted tt)
   pub table : r .table ≡ tableFor v
+
+-- what is judged next: a refusal stays, and a table that is accepted goes on
+abbrev pub goingOn : Judged → (rules.Table → verdicts.Verdict rules.Table) → verdicts.Verdict rules.Table
+goingOn j f = onwards (verdictOn (j .verdict) (tableOf (j .table))) f
 
 -- a table that is accepted is zero where nothing counts
 abbrev pub Tidy : Judged → Type 0

@@ -3,11 +3,10 @@
 use Prim.Native.Nat.{_≤_}
 use mathlib.Core.Path.{_≡_}
 use Rattle.rules.specs.Table.{Table}
-use Rattle.rules.specs.Verdicts.{Verdict, CLASH, RACE, Test, _then_, onwards}
+use Rattle.rules.specs.Verdicts.{Verdict, CLASH, RACE, Test, _then_}
 use Rattle.rules.specs.Judge.{clashes, races, pairsTest, earlyTest, judgeWhole}
-use Rattle.fields.specs.Verdicts.{verdictOn}
 use Rattle.fields.specs.declared.Verdict.the-variants.{Accepted}
-use Rattle.table.specs.Tables.{tableOf, Tidy}
+use Rattle.table.specs.Tables.{goingOn, Tidy}
 use Rattle.table.specs.declared.Judged.{Judged}
 use Rattle.early.specs.Early.{Named}
 
@@ -21,7 +20,7 @@ wholeTest T = bothTests T then earlyTest T (T .decider)
 
 -- a refusal of the fields stays; a table that they accept is judged whole
 abbrev pub wholeOn : Judged → Verdict Table
-wholeOn j = onwards (verdictOn (j .verdict) (tableOf (j .table))) judgeWhole
+wholeOn j = goingOn j judgeWhole
 
 -- a table that they accept is zero where nothing counts, has no more modes than there may be, and its decider is an operation
 abbrev pub Ready : Judged → Type 0

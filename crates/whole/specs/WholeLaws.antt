@@ -1,21 +1,20 @@
 -- The judgement of the whole table, and of one whose fields are judged.
 -- Assumes nothing.
 use Prim.Native.Nat.{ℕ, _<_, _≤_}
-use mathlib.Core.Path.{_≡_, sym, ap, _∙_}
+use mathlib.Core.Path.{_≡_, sym, _∙_}
 use lib.ListN.{length}
 use Rattle.rules.specs.Table.{decides, Table, nops}
-use Rattle.rules.specs.Verdicts.{Verdict, accepted, CLASH, RACE, _then_}
+use Rattle.rules.specs.Verdicts.{Verdict, accepted, CLASH, RACE, _then_, onwards}
 use Rattle.rules.specs.Judge.{clashes, races, pairsTest, earlyTest, judgeWhole}
-use Rattle.theory.proofs.Verdicts.{then-accepts, then-assoc, onwards-accepts}
+use Rattle.theory.proofs.Verdicts.{then-accepts, then-assoc}
 use Rattle.theory.proofs.Judging.{whole-row}
-use Rattle.fields.specs.Verdicts.{refusalOf, verdictOn}
+use Rattle.fields.specs.Verdicts.{refusalOf}
 use Rattle.fields.specs.declared.Refusal.{Refusal}
-use Rattle.fields.specs.declared.Verdict as heard
-use Rattle.fields.specs.declared.Verdict.the-variants.{Accepted, Refused}
-use Rattle.fields.specs.RefusalLaws.{then-refusal, onwards-refusal}
-use Rattle.table.specs.Tables.{tableOf, JudgedAs}
+use Rattle.fields.specs.declared.Verdict.the-variants.{Accepted}
+use Rattle.fields.specs.RefusalLaws.{then-refusal}
+use Rattle.table.specs.Tables.{JudgedAs}
 use Rattle.table.specs.TableLaws.{who-back}
-use Rattle.table.specs.JudgedLaws.{judged-tidy, judged-accepted}
+use Rattle.table.specs.JudgedLaws.{judged-tidy, judged-accepted, going-by}
 use Rattle.table.specs.declared.Judged.{Judged}
 use Rattle.early.specs.Early.{Named}
 use Rattle.whole.specs.Whole.{bothTests, wholeTest, wholeOn, Ready}
@@ -36,14 +35,6 @@ module _ (T : Table) where
   pub whole-accepted : wholeTest T ≡ accepted tt → judgeWhole T ≡ accepted T
   whole-accepted e = whole-judged ∙ then-accepts (accepted T) e
 
--- ---- a table whose fields are judged
-module _ (j : Judged) where
-  pub fields-refused : (q : Refusal) → j .verdict ≡ Refused q → wholeOn j ≡ refusalOf q
-  fields-refused q e = onwards-refusal q judgeWhole (ap (λ (v : heard.Verdict). verdictOn v (tableOf (j .table))) e)
-
-  pub fields-accepted : j .verdict ≡ Accepted → wholeOn j ≡ judgeWhole (tableOf (j .table))
-  fields-accepted e = onwards-accepts judgeWhole (ap (λ (v : heard.Verdict). verdictOn v (tableOf (j .table))) e)
-
 -- ---- what passes on: as many words as modes, 32 modes at most, and a decider that is an operation
 pub record Fit (T : Table) : Type 0 where
   pub words : length (T .follow) ≡ T .modes
@@ -59,3 +50,7 @@ ready-by {v} {r} j fits = (judged-tidy j (λ T e. fits T e .words), go)
         let took = judged-accepted v r j e in
         let fit = fits (took .table) (took .said) in
         rw (took .held) (fit .few, λ d x. fit .named d (sym (who-back (took .table .decider)) ∙ x))
+
+-- and its judgement is that of the verdict
+pub whole-by : {v : Verdict Table} {r : Judged} → JudgedAs v r → ((T : Table) → v ≡ accepted T → Fit T) → wholeOn r ≡ onwards v judgeWhole
+whole-by j fits = going-by j (λ T e. fits T e .words) judgeWhole

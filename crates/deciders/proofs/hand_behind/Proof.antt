@@ -14,6 +14,16 @@ use Rattle.deciders.specs.DeciderLaws.{handed-bad, handed-fine, nobody-f
 use Rattle.deciders.proofs.hand_behind.Statement.{statement}
 use Rattle.deciders.proofs.hand_behind.Tie as tie
 
+-- no more operations count than the array has
+long : (s : tie.Start) → length (s .args .t .ops) ≡ 32
+long s = simp length-map at (s .good .0 .1 .1 .1 .1 .1 .1 .1 .1 .0 .1 .0 .1)
+
+few : (s : tie.Start) → s .args .t .count ≤ 32
+few s = kept-few (s .args .t) (long s) (s .pre)
+
+holds : (s : tie.Start) → s .args .t .count ≤ length (s .args .t .ops)
+holds s = omega (arith, few s, long s)
+
 named-requires : tie.Need-named-requires
 named-requires c κs = c .before .pre
 
@@ -21,8 +31,7 @@ returns : tie.Need-returns
 returns c =
     let s = c .before .before in
     let t = s .args .t in
-    let long : length (t .ops) ≡ 32 = simp length-map at (s .good .0 .1 .1 .1 .1 .1 .1 .1 .1 .0 .1 .0 .1) in
-    let full : t .count ≤ length (t .ops) = omega (arith, kept-few t long (s .pre)) in
+    let full = holds s in
     let unset : s .args .mark ≡ 0 = omega (arith, c .before .if1 .taken) in
     rw (eq-eqb (s .args .mark) 0 unset, handed-fine (tableOf t) (count-is t full) nobody (nobody-fine _)) (c .named .ensures)
 
@@ -31,15 +40,11 @@ decider-wrong-requires c κs = search needs
 
 ops-end-requires : tie.Need-ops-end-requires
 ops-end-requires c κs =
-    let s = c .before .before .before in
-    let long : length (s .args .t .ops) ≡ 32 = simp length-map at (s .good .0 .1 .1 .1 .1 .1 .1 .1 .1 .0 .1 .0 .1) in
-    kept-few (s .args .t) long (s .pre)
+    few (c .before .before .before)
 
 add-t8 : tie.Need-add-t8
 add-t8 c =
-    let s = c .before .before .before .before in
-    let long : length (s .args .t .ops) ≡ 32 = simp length-map at (s .good .0 .1 .1 .1 .1 .1 .1 .1 .1 .0 .1 .0 .1) in
-    omega (arith, decider-within _ _ (c .before .before .decider-wrong .ensures), kept-few (s .args .t) long (s .pre), c .ops-end .ensures)
+    omega (arith, decider-within _ _ (c .before .before .decider-wrong .ensures), few (c .before .before .before .before), c .ops-end .ensures)
 
 deny-requires : tie.Need-deny-requires
 deny-requires c κs = search needs
@@ -50,8 +55,7 @@ returns-2 c =
     let d = o .before .before in
     let s = d .before .before in
     let t = s .args .t in
-    let long : length (t .ops) ≡ 32 = simp length-map at (s .good .0 .1 .1 .1 .1 .1 .1 .1 .1 .0 .1 .0 .1) in
-    let full : t .count ≤ length (t .ops) = omega (arith, kept-few t long (s .pre)) in
+    let full = holds s in
     rw (
       ne-eqb (s .args .mark) 0 (d .before .if1 .left),
       handed-bad (tableOf t) (end-is t full (o .ops-end .ensures)) (count-is t full) (decides (s .args .decider)) (d .decider-wrong .ensures) (o .before .if2 .taken),
@@ -66,8 +70,7 @@ returns-3 c =
     let d = c .before .before in
     let s = d .before .before in
     let t = s .args .t in
-    let long : length (t .ops) ≡ 32 = simp length-map at (s .good .0 .1 .1 .1 .1 .1 .1 .1 .1 .0 .1 .0 .1) in
-    let full : t .count ≤ length (t .ops) = omega (arith, kept-few t long (s .pre)) in
+    let full = holds s in
     rw (
       ne-eqb (s .args .mark) 0 (d .before .if1 .left),
       handed-fine (tableOf t) (count-is t full) (decides (s .args .decider)) (sym (d .decider-wrong .ensures) ∙ c .before .if2 .left),

@@ -13,11 +13,18 @@ use Rattle.deciders.specs.DeciderLaws.{test-whole, behind-bad, behind-fi
 use Rattle.deciders.proofs.read_behind.Statement.{statement}
 use Rattle.deciders.proofs.read_behind.Tie as tie
 
+-- no more operations count than the array has
+long : (s : tie.Start) → length (s .args .t .ops) ≡ 32
+long s = simp length-map at (s .good .1 .0 .1 .1 .1 .1 .1 .1 .1 .1 .0 .1 .0 .1)
+
+few : (s : tie.Start) → s .args .t .count ≤ 32
+few s = kept-few (s .args .t) (long s) (s .pre)
+
+holds : (s : tie.Start) → s .args .t .count ≤ length (s .args .t .ops)
+holds s = omega (arith, few s, long s)
+
 ops-end-requires : tie.Need-ops-end-requires
-ops-end-requires c κs =
-    let s = c .before in
-    let long : length (s .args .t .ops) ≡ 32 = simp length-map at (s .good .1 .0 .1 .1 .1 .1 .1 .1 .1 .1 .0 .1 .0 .1) in
-    kept-few (s .args .t) long (s .pre)
+ops-end-requires c κs = few (c .before)
 
 field-test-requires : tie.Need-field-test-requires
 field-test-requires c κs = search needs
@@ -44,8 +51,7 @@ returns c =
     let o = f .before in
     let s = o .before .before in
     let t = s .args .t in
-    let long : length (t .ops) ≡ 32 = simp length-map at (s .good .1 .0 .1 .1 .1 .1 .1 .1 .1 .1 .0 .1 .0 .1) in
-    let full : t .count ≤ length (t .ops) = omega (arith, kept-few t long (s .pre)) in
+    let full = holds s in
     rw
     (behind-bad (tableOf t) (end-is t full (o .ops-end .ensures)) (count-is t full) (now (s .args .s)) (v .v .given .0 .0)
     (refused-as (f .field-test .ensures) (v .v .given .1)))
@@ -59,8 +65,7 @@ returns-2 c =
     let o = f .before in
     let s = o .before .before in
     let t = s .args .t in
-    let long : length (t .ops) ≡ 32 = simp length-map at (s .good .1 .0 .1 .1 .1 .1 .1 .1 .1 .1 .0 .1 .0 .1) in
-    let full : t .count ≤ length (t .ops) = omega (arith, kept-few t long (s .pre)) in
+    let full = holds s in
     rw
     (behind-fine (tableOf t) (end-is t full (o .ops-end .ensures)) (count-is t full) (now (s .args .s))
     (passed-as (f .field-test .ensures) (e .enum-told .given .1)) (w .who-at .ensures))

@@ -1,7 +1,7 @@
 -- A refusal is handed on; a table that the fields accept is judged whole.
 -- Assumes nothing.
 use borrow.Author.Needs.{needs}
-use Rattle.whole.specs.WholeLaws.{fields-refused, fields-accepted}
+use Rattle.table.specs.JudgedLaws.{going-refused, going-accepted}
 use Rattle.whole.proofs.judge.Statement.{statement}
 use Rattle.whole.proofs.judge.Tie as tie
 
@@ -21,10 +21,10 @@ judge-table-requires c κs =
     (pre .0 e, pre .1 e .0, pre .1 e .1)
 
 returns : tie.Need-returns
-returns c = let v = c .before .before in rw (fields-refused (v .before .before .args .j) (v .v .given .0 .0) (v .v .given .1)) (c .deny .ensures)
+returns c = let v = c .before .before in rw (going-refused (v .before .before .args .j) _ (v .v .given .0 .0) (v .v .given .1)) (c .deny .ensures)
 
 returns-2 : tie.Need-returns-2
-returns-2 c = rw (fields-accepted (c .before .before .before .before .args .j) (c .before .before .enum-told .given .1)) (c .judge-table .ensures)
+returns-2 c = rw (going-accepted (c .before .before .before .before .args .j) _ (c .before .before .enum-told .given .1)) (c .judge-table .ensures)
 
 pub judge-spec : {M : Type 1} → statement M
 judge-spec =
