@@ -14,7 +14,7 @@ use Rattle.rules.specs.Bytes.{num8}
 use Rattle.rules.specs.Judge.{ranged, header, fieldTest, deciderWrong, withDecider, opsPlace, opsEnd, nothingDue, deciderAt, deciderTest}
 use Rattle.theory.proofs.Verdicts.{passes, refuses, then-accepts, then-refuses, then-first}
 use Rattle.theory.proofs.Ranges.{ranged-yes, ranged-no}
-use Rattle.theory.proofs.Judging.{both, field-passed, says-decider, decider-row, nothing-row}
+use Rattle.theory.proofs.Judging.{both, field-passed, decider-row, nothing-row}
 use Rattle.fields.specs.Verdicts.{refusalOf}
 use Rattle.fields.specs.declared.Refusal.{Refusal}
 use Rattle.fields.specs.Fields.{fieldOf}
@@ -151,7 +151,3 @@ module _ (t : Table) (full : t .count ≤ length (t .ops)) where
 
   pub end-is : {at : ℕ} → at ≡ opsPlace (t .modes) + 21 * t .count → at ≡ opsEnd (tableOf t)
   end-is e = omega (arith, e, count-is)
-
--- nobody is never wrong
-pub nobody-fine : (n : ℕ) → deciderWrong n nobody ≡ 0
-nobody-fine n = says-decider n nobody .1 (λ d e. let z : _≡_ {A = ℕ} 0 1 = cc in absurd (omega arith))

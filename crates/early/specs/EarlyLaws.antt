@@ -45,7 +45,7 @@ module _ (t : Table) (d : ℕ) where
     T = tableOf t
 
     -- the tests, as the rules have them
-    pub always-meant : always T (op T d) ≡ alwaysIn (t .modes) (opOf (getD (t .ops) d blankOp))
+    always-meant : always T (op T d) ≡ alwaysIn (t .modes) (opOf (getD (t .ops) d blankOp))
     unfolding always
     always-meant = ap (alwaysIn (t .modes)) (op-at t d isOp)
 

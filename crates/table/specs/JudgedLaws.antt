@@ -50,7 +50,7 @@ judged-refused v r q j e = heard-refusal v q (sym (ap tested e) ∙ j .said)
 
 -- where an accepted table has as many words as modes, the code's verdict and table tell the verdict, and the table is zero where nothing counts
 module _ {v : Verdict Table} {r : Judged} (j : JudgedAs v r) (words : (T : Table) → v ≡ accepted T → length (T .follow) ≡ T .modes) where
-  pub judged-on : verdictOn (r .verdict) (tableOf (r .table)) ≡ v
+  judged-on : verdictOn (r .verdict) (tableOf (r .table)) ≡ v
   judged-on = go (r .verdict) refl
     where
       go : (w : heard.Verdict) → r .verdict ≡ w → verdictOn w (tableOf (r .table)) ≡ v

@@ -16,9 +16,9 @@ use Rattle.rules.specs.Verdicts.{Verdict, accepted, refused, ORDER, SIZE, MANY,
 use Rattle.rules.specs.Bytes.{num8, num16, num32, words, be32, joined, opBytes, headBytes, deciderBytes, opAt, tableBytes, rowBytes, replyBytes}
 use Rattle.rules.specs.Judge.{notMany, ranged, fieldTest, repeatTest, atEnd, fieldsFrom, deciderWrong, nothingDue, deciderAt, deciderTest}
 use Rattle.theory.specs.Numbers.{OpFits}
-use Rattle.theory.proofs.Ranges.{ranged-yes}
+use Rattle.theory.proofs.Ranges.{ranged-yes, decider-none}
 use Rattle.theory.proofs.Verdicts.{passes, then-accepts, then-none, more-accepts}
-use Rattle.theory.proofs.Judging.{decider-row, nothing-row, says-decider}
+use Rattle.theory.proofs.Judging.{decider-row, nothing-row}
 
 -- ---- numbers in bytes
 
@@ -215,7 +215,7 @@ module _ (pre : List ℕ) (at n : ℕ) (place : at ≡ length pre) where
   -- and the range is left to test
   pub decider-tested : (who : Decider) → deciderTest (pre ++ deciderBytes who) at n ≡ ranged (deciderWrong n who) at
   decider-tested nobody =
-      decider-row (pre ++ []) at n ∙ rw no-decider (sym (ranged-yes _ at (says-decider n nobody .1 (λ d e. let z : _≡_ {A = ℕ} 0 1 = cc in absurd (omega arith)))))
+      decider-row (pre ++ []) at n ∙ rw no-decider (sym (ranged-yes _ at (decider-none n)))
   decider-tested (decides d) =
       let s = pre ++ (5 ∷ 0 ∷ 1 ∷ d ∷ []) in
       let long = length-append pre (5 ∷ 0 ∷ 1 ∷ d ∷ []) in

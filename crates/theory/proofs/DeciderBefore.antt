@@ -18,9 +18,9 @@ use Rattle.rules.specs.Judge.{needed, header, due, fieldTest, repeatTest, atEnd
 use Rattle.theory.specs.DeciderBefore.{wholeBefore, opsBefore, judgeBefore, numbersBefore}
 use Rattle.theory.proofs.Says.{Known, holds, fails, known, clash-bool}
 use Rattle.theory.proofs.Verdicts.{never-refused, passes, refuses, then-accepts, then-refuses, then-again, then-assoc, onwards-accepts, onwards-refuses, onwards-same, more-accepts, more-first}
-use Rattle.theory.proofs.Ranges.{ranged-yes}
+use Rattle.theory.proofs.Ranges.{ranged-yes, decider-none}
 use Rattle.theory.proofs.Early.{no-early}
-use Rattle.theory.proofs.Judging.{repeat-row, repeat-passed, field-row, fields-end, fields-next, whole-row, says-decider, done-end, done-is, judge-row, behind-row, decider-row, judgeNumbers-row, judgeDecider-row}
+use Rattle.theory.proofs.Judging.{repeat-row, repeat-passed, field-row, fields-end, fields-next, whole-row, done-end, done-is, judge-row, behind-row, decider-row, judgeNumbers-row, judgeDecider-row}
 
 -- ---- the last tests: where nobody decides there is none more
 whole-before : (T : Table) → T .decider ≡ nobody → judgeWhole T ≡ wholeBefore T
@@ -42,7 +42,7 @@ numbers-before N unset =
     (λ os _.
     ap (λ (x : Decider). judgeDecider x (withOps H os)) who
     ∙ judgeDecider-row nobody (withOps H os)
-    ∙ then-accepts _ (ranged-yes _ _ (says-decider (length os) nobody .1 (λ d e. let z : _≡_ {A = ℕ} 0 1 = cc in absurd (omega arith))))
+    ∙ then-accepts _ (ranged-yes _ _ (decider-none (length os)))
     ∙ whole-before (withOps H os) refl))
 
 -- ---- a table's bytes

@@ -21,7 +21,7 @@ use Rattle.theory.proofs.Order.{Cmp, cmp}
 use Rattle.theory.proofs.Says.{Says, says-by, says-leb, says-ltb, says-and, says-or, says-false, says-eqb, clash-bool}
 use Rattle.theory.proofs.Sets.{in-or, says-shares}
 use Rattle.theory.proofs.Tests.{says-overlaps}
-use Rattle.theory.proofs.Ranges.{Fine, none-wrong, range-passed}
+use Rattle.theory.proofs.Ranges.{Fine, none-wrong, range-passed, decider-none}
 use Rattle.theory.proofs.Early.{early-iff}
 use Rattle.theory.proofs.Verdicts.{never-refused, passes, passed, fault-refused, then-accepts, then-first, then-rest, then-refused, onwards-first, more-first, each-accepts, each-accepted}
 
@@ -426,7 +426,7 @@ pub record HeadOk (H : Table) : Type 0 where
 -- a decider in its range is one of n operations
 pub says-decider : (n : ℕ) (who : Decider) → (deciderWrong n who ≡ 0) ↔ ((d : ℕ) → who ≡ decides d → d < n)
 unfolding deciderWrong All
-says-decider n nobody = (λ e d x. let z : _≡_ {A = ℕ} 0 1 = cc in absurd (omega arith), λ x. none-wrong (deciderRanges n nobody) .1 tt)
+says-decider n nobody = (λ e d x. let z : _≡_ {A = ℕ} 0 1 = cc in absurd (omega arith), λ x. decider-none n)
 says-decider n (decides i) = (
   λ e d x. let same : i ≡ d = cc in omega (arith, says-ltb i n .0 (none-wrong (deciderRanges n (decides i)) .0 e .0)),
   λ x. none-wrong (deciderRanges n (decides i)) .1 (says-ltb i n .1 (x i refl), tt),
@@ -583,10 +583,9 @@ module _ (s : List ℕ) where
   -- who decides is in range, and the input ends behind
   pub decider-passed : (at n : ℕ) → deciderTest s at n ≡ accepted tt → at ≤ length s
       → (deciderWrong n (deciderAt s at) ≡ 0) × (length s ≡ at + length (deciderBytes (deciderAt s at)))
-  unfolding deciderWrong All
   decider-passed at n e inside =
       both (leb (length s) at) (sym (decider-row at n) ∙ e)
-      (λ b _. let h = leb-true (length s) at b in rw b (none-wrong (deciderRanges n nobody) .1 tt, omega arith))
+      (λ b _. let h = leb-true (length s) at b in rw b (decider-none n, omega arith))
       (λ b x.
       let (whole, fine) = field-passed s at 5 1 _ (then-first _ _ x .1) in
       let last = nothing-passed (at + 4) (then-rest _ _ x) in

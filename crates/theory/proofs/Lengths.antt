@@ -18,6 +18,7 @@ use Rattle.rules.specs.Judge.{needed, header, due, notMany, sized, complete, fi
 use Rattle.rules.specs.Bench.{opn, oneMode}
 use Rattle.theory.proofs.Says.{says-same, says-leb, says-ltb}
 use Rattle.theory.proofs.Early.{full-iff}
+use Rattle.theory.proofs.Ranges.{decider-none}
 use Rattle.theory.proofs.Verdicts.{passed, then-refuses, then-same, onwards-same}
 use Rattle.theory.proofs.Judging.{field-row, repeat-row, fields-end, fields-next, head-row, head-ok, judge-row, field-passed, says-counts, HeadOk, pairs-first, whole-row, whole-accepted, behind-row, decider-row, nothing-row, ops-passing, decider-passed, parts-inside, judge-parts, judge-accepted}
 use Rattle.theory.proofs.Bytes.{table-length}
@@ -149,14 +150,10 @@ times-op : (i : ℕ) → i < 32 → opWrong k1-times (op k1-times i) ≡ 0
 unfolding opWrong
 times-op i h = rw (getD-replicate 32 i (opn 1 3 1 0 0 1) noOp h)
 
-times-decider : deciderWrong 32 nobody ≡ 0
-unfolding deciderWrong
-times-decider = refl
-
 pub clash-of-32 : judge (tableBytes k1-times) ≡ refused 6 0 1
 unfolding clashes
 clash-of-32 =
-    ranges-written k1-times times-head (omega arith) (omega arith) (λ i h. times-op i h) times-decider
+    ranges-written k1-times times-head (omega arith) (omega arith) (λ i h. times-op i h) (decider-none 32)
     ∙ whole-row k1-times
     ∙ then-refuses _
     (pairs-first clashes CLASH k1-times 0 1 .1

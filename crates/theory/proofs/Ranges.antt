@@ -177,7 +177,11 @@ pub len-high : (p : ℕ) → 1000 < p → lenWrong p ≡ 3
 unfolding lenWrong
 len-high p h = let low : 1 ≤ p = omega arith in rw (le-leb 1 p low, lt-leb p 1000 h)
 
--- a decider that is one of n operations, and one that is none
+-- nobody is never wrong; a decider that is one of n operations, and one that is none
+pub decider-none : (n : ℕ) → deciderWrong n nobody ≡ 0
+unfolding deciderWrong
+decider-none n = refl
+
 pub decider-low : (n d : ℕ) → d < n → deciderWrong n (decides d) ≡ 0
 unfolding deciderWrong
 decider-low n d h = rw (lt-ltb d n h)

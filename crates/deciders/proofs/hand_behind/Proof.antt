@@ -7,10 +7,10 @@ use lib.ListN.{length, length-map}
 use borrow.Author.Needs.{needs}
 use borrow.Author.Tests.{eq-eqb, ne-eqb}
 use Rattle.rules.specs.Table.{nobody, decides}
-use Rattle.theory.proofs.Ranges.{decider-within}
+use Rattle.theory.proofs.Ranges.{decider-none, decider-within}
 use Rattle.table.specs.Tables.{tableOf}
 use Rattle.table.specs.TableLaws.{kept-few}
-use Rattle.deciders.specs.DeciderLaws.{handed-bad, handed-fine, nobody-fine, count-is, end-is}
+use Rattle.deciders.specs.DeciderLaws.{handed-bad, handed-fine, count-is, end-is}
 use Rattle.deciders.proofs.hand_behind.Statement.{statement}
 use Rattle.deciders.proofs.hand_behind.Tie as tie
 
@@ -33,7 +33,7 @@ returns c =
     let t = s .args .t in
     let full = holds s in
     let unset : s .args .mark ≡ 0 = omega (arith, c .before .if1 .taken) in
-    rw (eq-eqb (s .args .mark) 0 unset, handed-fine (tableOf t) (count-is t full) nobody (nobody-fine _)) (c .named .ensures)
+    rw (eq-eqb (s .args .mark) 0 unset, handed-fine (tableOf t) (count-is t full) nobody (decider-none _)) (c .named .ensures)
 
 decider-wrong-requires : tie.Need-decider-wrong-requires
 decider-wrong-requires c κs = search needs
