@@ -477,25 +477,21 @@ fn points_of_decider_field(tally: &mut Tally) {
         text(&k1_decided()) == "period 3\nop 0 start 1 fst 0\n",
     );
     tally.check("24", judge(&k1).map(|table| table.decider) == Ok(None));
-    for more in ["05", "05 00", "05 00 01"] {
-        tally.refused("24", &joined(&k1, more), (1, 43, 0));
-    }
-    for more in [
-        "05 00 00",
-        "05 00 02 00 00",
-        "05 00 12",
-        "05 01 01 00",
-        "05 ff ff",
+    for (more, refusal) in [
+        ("05", (1, 43, 0)),
+        ("05 00", (1, 43, 0)),
+        ("05 00 01", (1, 43, 0)),
+        ("05 00 00", (3, 43, 0)),
+        ("05 00 02 00 00", (3, 43, 0)),
+        ("05 00 12", (3, 43, 0)),
+        ("05 01 01 00", (3, 43, 0)),
+        ("05 ff ff", (3, 43, 0)),
+        ("05 00 01 01", (4, 43, 46)),
+        ("05 00 01 ff", (4, 43, 46)),
+        ("05 00 01 01 04", (4, 43, 46)),
+        ("05 00 01 01 05 00 01 00", (4, 43, 46)),
     ] {
-        tally.refused("24", &joined(&k1, more), (3, 43, 0));
-    }
-    for more in [
-        "05 00 01 01",
-        "05 00 01 ff",
-        "05 00 01 01 04",
-        "05 00 01 01 05 00 01 00",
-    ] {
-        tally.refused("24", &joined(&k1, more), (4, 43, 46));
+        tally.refused("24", &joined(&k1, more), refusal);
     }
     let both = changed(&joined(&k1, "05 00 01 01"), 27, "0005");
     tally.refused("24 left to right", &both, (4, 22, 27));

@@ -63,7 +63,7 @@ extern "C" {
 #define TREVOZHIL_ASK 9
 #define TREVOZHIL_EARLY 10
 
-/* The longest table has this many bytes, of which the field of its decider has 4. No answer depends on more than 3 behind. */
+/* The longest table has this many bytes, 4 of them its decider's field. No answer depends on more than 3 behind it. */
 #define TREVOZHIL_LONGEST_TABLE 822
 
 /* The longest reply has this many bytes; a reply has 5 and 7 for each operation. */
@@ -107,8 +107,8 @@ uint32_t trevozhil_judge_numbers(uint64_t p, uint64_t boards, uint64_t cells, ui
 /*
  * Writes the bytes of a table that is handed over as numbers, as above, to out, which has room for out_len bytes. The
  * decider's field is written exactly where mark is not 0.
- * Answers 0 where they are written, or a refusal from 1 to 8, or EARLY; ROOM comes last. Where it answers 0 the first *a bytes of
- * out are the table's, and the others are as they were. Where it refuses, every byte of out is as it was.
+ * Answers 0 where they are written, or a refusal from 1 to 8, or EARLY; ROOM comes last. Where it answers 0 the first
+ * *a bytes of out are the table's, and the others are as they were. Where it refuses, every byte of out is as it was.
  */
 uint32_t trevozhil_write(uint64_t p, uint64_t boards, uint64_t cells, uint64_t modes, uint64_t first,
                          const uint64_t *follow, size_t follow_len, const uint64_t *ops, size_t ops_len, uint64_t mark,
@@ -139,8 +139,8 @@ uint32_t trevozhil_values_arrive(const uint8_t *s, size_t s_len, uint64_t q, uin
 /*
  * Folds a table onto its period, and writes the reply's bytes to out, which has room for out_len bytes: the period,
  * then for each operation in table order its folded start and its start index.
- * Answers 0 where they are written, or a refusal from 1 to 8, or EARLY; ROOM comes last. Where it answers 0 the first *a bytes of
- * out are the reply's, and the others are as they were. Where it refuses, every byte of out is as it was.
+ * Answers 0 where they are written, or a refusal from 1 to 8, or EARLY; ROOM comes last. Where it answers 0 the first
+ * *a bytes of out are the reply's, and the others are as they were. Where it refuses, every byte of out is as it was.
  */
 uint32_t trevozhil_plan(const uint8_t *s, size_t s_len, uint8_t *out, size_t out_len, uint64_t *a, uint64_t *b);
 
