@@ -4,7 +4,8 @@
 //! To add a function: declare it in `library`, give it a line in FUNCTIONS of
 //! `findings`, and compare it in the draw that has its inputs (or in one more draw).
 
-use crate::answers::{self, reply_bytes, start_bytes, starts_of, Reply, Row, LONGEST_REPLY};
+use crate::answers::{self, reply_bytes, start_bytes, starts_of, Reply, Row};
+use crate::answers::{DECIDER_FIELD, LONGEST_REPLY};
 use crate::blamed;
 use crate::examples::K1;
 use crate::findings::{lent, memory_for, planned, Findings, Seen};
@@ -183,6 +184,7 @@ fn draw_bytes(seed: &mut Seed, findings: &mut Findings) {
     let bytes = generate::table_bytes(seed);
     findings.note_blamed("judge", &blamed::in_table(&bytes));
     findings.deciders.note_bytes(&bytes);
+    findings.holds.note_bytes(&bytes);
     compare_judge(&bytes, findings);
     // whole tables have draws of their own; here it is the damaged ones
     if judge(&bytes).is_err() {
@@ -235,11 +237,12 @@ fn k1() -> Vec<u8> {
     bytes_in(K1).expect("the example is hexadecimal text")
 }
 
-/// Two modes, three boards. The first operation decides the mode and lasts two ticks, the
-/// second runs in one mode and starts then, the third runs in both and does not wait.
+/// Two modes, three boards. The first operation decides the mode and lasts two ticks, its board
+/// is held for one more; the second runs in one mode and starts then, the third runs in both, does
+/// not wait, and its board is held up to the end.
 const DECIDED: &str = "0100020004 020003030002 03000c000000010000000300000001 \
-    040012000000020001000000000000000000000003 040012000200010002000000000000000000000001 \
-    040012000100020004000000000000000000000003 05000100";
+    0400140000000200010001000000000000000000000003 040012000200010002000000000000000000000001 \
+    0400140001000200010004000000000000000000000003 05000100";
 
 fn decided() -> Vec<u8> {
     let bytes = bytes_in(DECIDED).expect("hexadecimal text");
@@ -247,11 +250,10 @@ fn decided() -> Vec<u8> {
     bytes
 }
 
-/// K1, K1 and another table with a decider, and K1's reply, with every small damage.
+/// K1, K1 and another table with holds and a decider, and K1's reply, with every small damage.
 fn fixed_bytes(seed: &mut Seed, findings: &mut Findings) {
     let k1 = k1();
-    let k1_decided = [&k1[..], &[0x05, 0, 1, 0]].concat();
-    for table in [&k1, &k1_decided, &decided()] {
+    for table in [&k1, &bytes_of_numbers(&k1_numbers(1)), &decided()] {
         for bytes in all_damages(table) {
             compare_judge(&bytes, findings);
             compare_at_period(&bytes, generate::period_question(seed, 5), findings);
@@ -284,26 +286,38 @@ fn pairs_of_values() -> impl Iterator<Item = (u64, u64)> {
     VALUES.iter().flat_map(|one| VALUES.map(|two| (*one, two)))
 }
 
-/// K1 as numbers; its only operation decides the mode.
-fn k1_numbers() -> Numbers {
+/// K1 as numbers; its only operation decides the mode, and has a hold of one tick with this
+/// mark.
+fn k1_numbers(mark: u64) -> Numbers {
     let mut table = judge(&k1()).expect("K1 is accepted");
-    table.decider = Some(0);
-    numbers_of(&table)
+    (table.ops[0].hold, table.decider) = (Some(1), Some(0));
+    let mut numbers = numbers_of(&table);
+    numbers.holds[0] = mark;
+    numbers
 }
 
-/// K1 with any two of its numbers at any of these values, as numbers and as bytes.
+/// K1 with any two of its numbers at any of these values, as numbers and as bytes, with its hold
+/// marked and not.
 fn fixed_pairs(findings: &mut Findings) {
-    let k1 = k1_numbers();
-    let places = k1.decider_place() + 1;
-    let pairs = (0..places).flat_map(|second| (0..second).map(move |first| (first, second)));
-    for (first, second) in pairs {
-        for values in pairs_of_values() {
-            let mut numbers = k1.clone();
-            (*numbers.number(first), *numbers.number(second)) = values;
-            compare_judge_numbers(&numbers, findings);
-            compare_judge(&bytes_of_numbers(&numbers), findings);
+    for k1 in [k1_numbers(0), k1_numbers(1)] {
+        let places = k1.decider_place() + 1;
+        let pairs = (0..places).flat_map(|second| (0..second).map(move |first| (first, second)));
+        for (first, second) in pairs {
+            for values in pairs_of_values() {
+                let mut numbers = k1.clone();
+                (*numbers.number(first), *numbers.number(second)) = values;
+                compare_judge_numbers(&numbers, findings);
+                compare_judge(&bytes_of_numbers(&numbers), findings);
+            }
         }
     }
+}
+
+/// Judged, and written into just as many bytes as the whole operations want.
+fn compare_numbers(numbers: &Numbers, seed: &mut Seed, findings: &mut Findings) {
+    compare_judge_numbers(numbers, findings);
+    let before = memory_for(seed, bytes_of_numbers(numbers).len());
+    compare_write(numbers, &before, findings);
 }
 
 /// K1 with its mark and its decider at any of these values, and with numbers of its
@@ -311,12 +325,95 @@ fn fixed_pairs(findings: &mut Findings) {
 fn fixed_marks(seed: &mut Seed, findings: &mut Findings) {
     for (mark, decider) in pairs_of_values() {
         for length in 0..=13 {
-            let mut numbers = k1_numbers();
+            let mut numbers = k1_numbers(length as u64 % 2);
             numbers.ops.resize(length, 1);
             (numbers.mark, numbers.decider) = (mark, decider);
-            compare_judge_numbers(&numbers, findings);
-            let before = memory_for(seed, bytes_of_numbers(&numbers).len());
-            compare_write(&numbers, &before, findings);
+            compare_numbers(&numbers, seed, findings);
+        }
+    }
+}
+
+/// Holds beyond 16, 32 and 48 bits that would be good in these.
+const LONG_HOLDS: [u64; 3] = [(1 << 16) + 1, (1 << 32) + 1, (1 << 48) + 1];
+
+/// K1 with the mark of its hold and the hold at any of these values, and with as many of its
+/// other numbers, and of marks and holds, as none, one, and too few or too many for one or two
+/// operations.
+fn fixed_holds(seed: &mut Seed, findings: &mut Findings) {
+    let long = LONG_HOLDS.iter().map(|hold| (1, *hold));
+    for (mark, hold) in pairs_of_values().chain(long) {
+        for ops in [0, 1, 5, 6, 7, 11, 12, 13] {
+            for holds in 0..=5 {
+                let mut numbers = k1_numbers(mark);
+                numbers.holds[1] = hold;
+                numbers.ops = numbers.ops.repeat(3);
+                numbers.holds = numbers.holds.repeat(3);
+                numbers.ops.truncate(ops);
+                numbers.holds.truncate(holds);
+                compare_numbers(&numbers, seed, findings);
+            }
+        }
+    }
+}
+
+/// K1's operation 32 times, with holds in all fields, in every second one, and in none, and with
+/// as many of a 33rd one's numbers, and of its mark and its hold.
+fn fixed_many(seed: &mut Seed, findings: &mut Findings) {
+    for marks in [[1, 1], [0, 1], [1, 0], [0, 0]] {
+        for (ops, holds) in [
+            (0, 0),
+            (1, 0),
+            (0, 1),
+            (0, 2),
+            (6, 0),
+            (6, 1),
+            (6, 2),
+            (12, 4),
+        ] {
+            let mut numbers = k1_numbers(1);
+            numbers.ops = numbers.ops.repeat(34);
+            numbers.holds = marks.iter().flat_map(|mark| [*mark, 1]).collect();
+            numbers.holds = numbers.holds.repeat(17);
+            numbers.ops.truncate(32 * 6 + ops);
+            numbers.holds.truncate(32 * 2 + holds);
+            compare_numbers(&numbers, seed, findings);
+            compare_judge(&bytes_of_numbers(&numbers), findings);
+        }
+    }
+}
+
+/// Bytes behind a table: up to three of these, which are headers of operations, of deciders and of
+/// no field, and as many as nobody reads.
+fn all_behind(table: &[u8]) -> Vec<Vec<u8>> {
+    let mut all = Vec::new();
+    for header in [
+        [4, 0, 18],
+        [4, 0, 19],
+        [4, 0, 20],
+        [5, 0, 1],
+        [5, 0, 20],
+        [0; 3],
+    ] {
+        all.extend((1..=3).map(|length| [table, &header[..length]].concat()));
+        for byte in [0, 4, 31, 32] {
+            all.push([table, &header, &[byte]].concat());
+            all.push([table, &header, &[byte; 5000]].concat());
+        }
+    }
+    all
+}
+
+/// A longest table without its decider's field and with it, the end of it cut, and with bytes
+/// behind it: "no answer depends on bytes past 889".
+fn fixed_longest(seed: &mut Seed, findings: &mut Findings) {
+    let decided = bytes_of(&generate::longest_held(seed));
+    let longest = &decided[..decided.len() - DECIDER_FIELD];
+    let cuts = (decided.len() - 30..=decided.len()).map(|length| decided[..length].to_vec());
+    for bytes in cuts.chain(all_behind(longest)).chain(all_behind(&decided)) {
+        compare_judge(&bytes, findings);
+        compare_at_period(&bytes, generate::period_question(seed, 1000), findings);
+        if judge(&bytes).is_err() {
+            compare_folds(&bytes, 1, seed, findings);
         }
     }
 }
@@ -372,7 +469,7 @@ fn hex_words(words: &[u64]) -> String {
 
 fn hex_numbers(n: &Numbers) -> String {
     format!(
-        "p {:x} boards {:x} cells {:x} modes {:x} first {:x} follow [{}] ops [{}] mark {:x} decider {:x}",
+        "p {:x} boards {:x} cells {:x} modes {:x} first {:x} follow [{}] ops [{}] holds [{}] mark {:x} decider {:x}",
         n.p,
         n.boards,
         n.cells,
@@ -380,6 +477,7 @@ fn hex_numbers(n: &Numbers) -> String {
         n.first,
         hex_words(&n.follow),
         hex_words(&n.ops),
+        hex_words(&n.holds),
         n.mark,
         n.decider
     )
@@ -416,6 +514,7 @@ fn draw_numbers(seed: &mut Seed, findings: &mut Findings) {
     let numbers = generate::numbers(seed);
     findings.note_blamed("judge_numbers", &blamed::in_numbers(&numbers));
     findings.deciders.note_numbers(&numbers);
+    findings.holds.note_numbers(&numbers);
     compare_judge_numbers(&numbers, findings);
     for length in rooms(seed, bytes_of_numbers(&numbers).len()) {
         let before = memory_for(seed, length);
@@ -432,6 +531,9 @@ pub fn against(count: u64, mut seed: Seed) -> bool {
     fixed_bytes(&mut seed, &mut findings);
     fixed_pairs(&mut findings);
     fixed_marks(&mut seed, &mut findings);
+    fixed_holds(&mut seed, &mut findings);
+    fixed_many(&mut seed, &mut findings);
+    fixed_longest(&mut seed, &mut findings);
     fixed_replies(&mut seed, &mut findings);
     fixed_margins(&mut seed, &mut findings);
     for turn in 0..count {

@@ -13,9 +13,12 @@ pub fn read_part(bytes: &[u8]) -> &[u8] {
     &bytes[..bytes.len().min(MOST_INPUT)]
 }
 
-/// "The longest table has 818 bytes", and "01's 818 and 821 bytes become 822 and 825"
-/// (document 02, No. 4): field 05 has 4.
-pub const LONGEST_TABLE: usize = 818 + DECIDER_FIELD;
+/// "The longest table has 818 bytes", without what may be there beside: field 05 with 4
+/// (document 02, No. 4), and 2 of a hold for each operation (No. 9: "the longest table has
+/// 886 bytes, with the decider's field").
+pub const LONGEST_TABLE: usize = LONGEST_PLAIN + LONGEST_HOLDS + DECIDER_FIELD;
+pub const LONGEST_PLAIN: usize = 818;
+pub const LONGEST_HOLDS: usize = 2 * MOST_OPS;
 pub const DECIDER_FIELD: usize = 4;
 
 /// "A reply has 5 + 7·operations bytes", the starts "2 bytes each".
@@ -83,7 +86,7 @@ pub fn plan(bytes: &[u8], out: &mut [u8]) -> Result<usize, Refusal> {
 /// "In a reply read for unfolding the period is 1 to 1000".
 fn read_period(fields: &mut Fields) -> Result<u64, Refusal> {
     let at = fields.offset();
-    let q = number_in(fields.field(0x11, 2, 0)?);
+    let q = number_in(fields.field(0x11, &[2], 0)?);
     judge_ranges(at, &[(2, q, 1 <= q && q <= 1000)])?;
     Ok(q)
 }
@@ -92,7 +95,7 @@ fn read_period(fields: &mut Fields) -> Result<u64, Refusal> {
 /// above blames "its start index". Gives the unfolded start.
 fn read_row(fields: &mut Fields, q: u64, before: usize) -> Result<u64, Refusal> {
     let at = fields.offset();
-    let value = fields.field(0x12, 4, before)?;
+    let value = fields.field(0x12, &[4], before)?;
     let (folded, fst) = (number_in(&value[0..2]), number_in(&value[2..4]));
     let start = fst * q + folded;
     judge_ranges(at, &[(2, folded, folded < q), (2, fst, start <= 999)])?;
@@ -142,7 +145,7 @@ fn judge_margin_question(table: &Table, i: u64, j: u64, n: u64, q: u64) -> Resul
 }
 
 /// "The margin of operations i, j at distance n and period q is n·q − (t + d of
-/// i, less t of j). It is signed".
+/// i, less t of j). It is signed"; "margins still go by the duration".
 pub fn margin(bytes: &[u8], i: u64, j: u64, n: u64, q: u64) -> Result<i64, Refusal> {
     let table = judge(bytes)?;
     judge_margin_question(&table, i, j, n, q)?;

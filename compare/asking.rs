@@ -124,13 +124,19 @@ const RACE: &str = "0100020004 020003020101 0300080000000100000001 \
 const EARLY: &str = "0100020004 020003020002 03000c000000030000000300000003 \
     040012000000020001000000000000000000000003 040012000100020002000000000000000000000002 05000100";
 
+/// K1 with a hold of one tick; at offset 29 is the hold.
+const HELD: &str = "0100020005 020003010001 0300080000000100000001 \
+    040014 0001 0003 0001 0001 00000000 00000000 00000001";
+
 /// K1 cut, K1 with a wrong length, a race, an operation that is too early, a reply, K1 with a
-/// decider, and with one that it does not have; and K1 with more bytes behind it than are
+/// decider, and with one that it does not have; K1 with a hold, with holds that are out of range,
+/// with one and a decider, and with a length between; and K1 with more bytes behind it than are
 /// read: what the tables of `examples/` do not have.
 fn damaged_tables() -> Vec<Vec<u8>> {
     let k1 = k1();
     let mut long_field = k1.clone();
     long_field[2] += 1;
+    let held = bytes_in(HELD).expect("hexadecimal text");
     vec![
         k1[..k1.len() - 1].to_vec(),
         long_field,
@@ -139,6 +145,12 @@ fn damaged_tables() -> Vec<Vec<u8>> {
         reply_of(&k1),
         [&k1[..], &[0x05, 0, 1, 0]].concat(),
         [&k1[..], &[0x05, 0, 1, 1]].concat(),
+        held.clone(),
+        changed(&held, 30, 0),
+        changed(&held, 30, 2),
+        changed(&held, 24, 19),
+        [&held[..], &[0x05, 0, 1, 0]].concat(),
+        [&held[..], &[0x05, 0, 1, 1]].concat(),
         [&k1[..], &[0; 5000]].concat(),
     ]
 }
@@ -165,9 +177,9 @@ fn reply_with(period: u64, folded: u64, fst: u64, rows: usize) -> Vec<u8> {
     })
 }
 
-/// The reply with another byte at a place.
-fn changed(reply: &[u8], place: usize, byte: u8) -> Vec<u8> {
-    let mut changed = reply.to_vec();
+/// The bytes with another one at a place.
+fn changed(bytes: &[u8], place: usize, byte: u8) -> Vec<u8> {
+    let mut changed = bytes.to_vec();
     changed[place] = byte;
     changed
 }
@@ -523,11 +535,11 @@ fn print_difference(case: &Case, output: &Output, planned: &(String, String)) {
     println!("  planner's error {:?}", shown(planned.1.as_bytes()));
 }
 
-/// All cases: about each table and a longest one with a decider, about damaged ones and
-/// replies, words by themselves, drawn ones.
+/// All cases: about each table and a longest one with holds and a decider, about damaged ones
+/// and replies, words by themselves, drawn ones.
 fn all_cases(tables: &[Vec<u8>]) -> Vec<Case> {
     let mut seed = Seed::new(1);
-    let longest = bytes_of(&generate::longest_decided(&mut seed));
+    let longest = bytes_of(&generate::longest_held(&mut seed));
     let tables = tables.iter().chain([&longest]).enumerate();
     let mut cases: Vec<Case> = tables
         .flat_map(|(turn, bytes)| about_table(bytes, turn))

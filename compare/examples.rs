@@ -2,6 +2,7 @@
 //! words and with them, the bytes made from it, and what the program `bench` prints for them.
 
 use crate::answers::{self, plan};
+use crate::generate::{self, Seed};
 use crate::hex::bytes_in;
 use crate::judge::{bytes_of, judge, Table};
 use crate::words::{self, Word};
@@ -55,6 +56,12 @@ pub fn plan_command() -> bool {
             false
         }
     }
+}
+
+/// The bytes of a longest table, always the same, on standard output.
+pub fn longest_command() -> bool {
+    let table = generate::longest_held(&mut Seed::new(1));
+    std::io::stdout().write_all(&bytes_of(&table)).is_ok()
 }
 
 // ---- what the comments say ----------------------------------------------

@@ -4,6 +4,7 @@ use crate::blamed::{Blamed, LAYOUT};
 use crate::deciders::Deciders;
 use crate::generate::Seed;
 use crate::hex::hex;
+use crate::holds::Holds;
 use crate::judge::Refusal;
 use crate::library::Said;
 
@@ -37,13 +38,16 @@ pub const NAMES: [&str; 11] = [
 /// seen to blame, by their places in LAYOUT: those of a table or of a reply. A start
 /// is blamed only where it is handed over as a number.
 const BLAMING: [(&str, &[usize]); 3] = [
-    ("judge", &[0, 1, 2, 3, 4, 5, 7, 8, 9, 10, 11, 12]),
-    ("judge_numbers", &[0, 1, 2, 3, 4, 5, 6, 7, 8, 9, 10, 11, 12]),
-    ("unfold", &[13, 14, 15]),
+    ("judge", &[0, 1, 2, 3, 4, 5, 7, 8, 9, 10, 11, 12, 13]),
+    (
+        "judge_numbers",
+        &[0, 1, 2, 3, 4, 5, 6, 7, 8, 9, 10, 11, 12, 13],
+    ),
+    ("unfold", &[14, 15, 16]),
 ];
 
 /// Those of LAYOUT that have others of their field behind them.
-const LEADING: [usize; 10] = [1, 2, 4, 5, 6, 7, 8, 9, 10, 14];
+const LEADING: [usize; 11] = [1, 2, 4, 5, 6, 7, 8, 9, 10, 11, 15];
 
 /// How many differences are printed; the others are only counted.
 const MOST_PRINTED: u64 = 5;
@@ -181,12 +185,13 @@ impl Blaming {
 // ---- what was found -----------------------------------------------------
 
 /// How often each function gave each number, the numbers that RANGE blames, what was met of
-/// deciders, and how many answers differ.
+/// deciders and of holds, and how many answers differ.
 #[derive(Default)]
 pub struct Findings {
     met: [[u64; NAMES.len()]; FUNCTIONS.len()],
     blaming: Blaming,
     pub deciders: Deciders,
+    pub holds: Holds,
     pub differences: u64,
 }
 
@@ -225,10 +230,11 @@ impl Findings {
         }
         self.blaming.print();
         self.deciders.print();
+        self.holds.print();
     }
 
     /// The numbers that a function has to be seen to give or to blame, and was not, and the
-    /// kinds of inputs with a decider that were not met.
+    /// kinds of inputs with a decider or with a hold that were not met.
     pub fn missed(&self) -> Vec<String> {
         let mut all = Vec::new();
         for (place, (name, numbers)) in FUNCTIONS.iter().enumerate() {
@@ -240,6 +246,7 @@ impl Findings {
         }
         all.extend(self.blaming.missed());
         all.extend(self.deciders.missed());
+        all.extend(self.holds.missed());
         all
     }
 }

@@ -3,7 +3,8 @@
 
 use crate::answers::{plan, reply_bytes, Reply, Row};
 use crate::judge::{bytes_of, bytes_of_numbers, judge_table, number_in, numbers_of};
-use crate::judge::{Numbers, Op, Refusal, Table, EARLY, NUMBERS_PER_OP};
+use crate::judge::{Numbers, Op, Refusal, Table, EARLY};
+use crate::judge::{HOLDS_PER_OP, NUMBERS_PER_OP, PLACES_PER_OP};
 use crate::runs::enough_cycles;
 use std::ops::Range;
 
@@ -168,12 +169,13 @@ fn followers(seed: &mut Seed, modes: u64) -> Vec<u64> {
 
 // ---- tables -------------------------------------------------------------
 
-/// An operation whose numbers and sets are in range.
+/// An operation whose numbers and sets are in range, without a hold.
 fn some_op(seed: &mut Seed, shape: &Shape) -> Op {
     let dur = seed.between(1, shape.longest.min(shape.p));
     Op {
         start: seed.often_edge(0, shape.p - dur),
         dur,
+        hold: None,
         boards: filled_set(seed, shape.boards, 2),
         reads: some_set(seed, shape.cells, 3),
         writes: some_set(seed, shape.cells, 2),
@@ -181,7 +183,7 @@ fn some_op(seed: &mut Seed, shape: &Shape) -> Op {
     }
 }
 
-/// A table in range, without a decider; it may have clashes and races.
+/// A table in range, without a decider and without holds; it may have clashes and races.
 fn some_table(seed: &mut Seed, shape: &Shape) -> Table {
     Table {
         len: shape.p,
@@ -347,8 +349,9 @@ fn possible_deciders(table: &Table) -> Vec<u64> {
 }
 
 /// An accepted table with a decider, accepted again: one that it may name as it is, or any
-/// one, for which it is mended.
+/// one, for which it is mended. Holds are taken away, since what is mended is moved.
 pub fn decided(seed: &mut Seed, mut table: Table) -> Table {
+    table.ops.iter_mut().for_each(|op| op.hold = None);
     let possible = possible_deciders(&table);
     let decider = if possible.is_empty() || seed.once_in(2) {
         seed.below(table.ops.len() as u64)
@@ -412,6 +415,7 @@ fn beside_op(seed: &mut Seed, table: &Table, board: usize, end: u64) -> Op {
     Op {
         start,
         dur: seed.between(1, table.len - start),
+        hold: None,
         boards: 1 << board,
         reads: some_set(seed, table.cells, 1),
         writes: 0,
@@ -448,12 +452,130 @@ fn deciding_table(seed: &mut Seed) -> Table {
     let op = &mut table.ops[decider as usize];
     (op.start, op.dur, op.modes) = (start, dur, modes);
     table.decider = Some(decider);
+    hold_any(seed, &mut table);
     table
 }
 
 /// Its bytes.
 pub fn deciding(seed: &mut Seed) -> Vec<u8> {
     bytes_of(&deciding_table(seed))
+}
+
+// ---- tables with holds --------------------------------------------------
+
+/// How many ticks the boards of an operation may be held after its end: up to the next start
+/// of one that shares a board and a mode with it, or up to p.
+fn room_for_hold(table: &Table, which: usize) -> u64 {
+    let op = &table.ops[which];
+    let is_next = |other: &&Op| {
+        other.start >= op.end() && other.boards & op.boards != 0 && other.modes & op.modes != 0
+    };
+    let next = table.ops.iter().filter(is_next).map(|other| other.start);
+    next.fold(table.len, u64::min) - op.end()
+}
+
+/// A hold of at most so many ticks for an operation of an accepted table, often as long as there
+/// is room. Where there is no room, one that lasts longer than a tick ends a tick earlier.
+fn hold_op(seed: &mut Seed, table: &mut Table, which: usize, most: u64) {
+    let mut room = room_for_hold(table, which);
+    let op = &mut table.ops[which];
+    if room == 0 && op.dur > 1 {
+        (op.dur, room) = (op.dur - 1, 1);
+    }
+    if room > 0 {
+        op.hold = Some(seed.often_edge(1, room.min(most)));
+    }
+}
+
+/// An accepted table with holds, accepted again: of all operations, or of some; any that there is
+/// room for, or all of them short.
+fn held(seed: &mut Seed, mut table: Table) -> Table {
+    let times = seed.one_of(&[1, 1, 2, 4]);
+    let most = seed.one_of(&[1, 2, 4, 1000, 1000]);
+    for which in 0..table.ops.len() {
+        if seed.once_in(times) {
+            hold_op(seed, &mut table, which, most);
+        }
+    }
+    table
+}
+
+/// An accepted table as it is, or with holds.
+fn perhaps_held(seed: &mut Seed, table: Table) -> Table {
+    if seed.once_in(2) {
+        return table;
+    }
+    held(seed, table)
+}
+
+/// Holds of all or of some operations, in range whatever they clash with; or none.
+fn hold_any(seed: &mut Seed, table: &mut Table) {
+    let (len, kind) = (table.len, seed.below(4));
+    for op in &mut table.ops {
+        let room = len - op.end();
+        let is_held = kind == 0 || kind == 1 && seed.once_in(2);
+        if room > 0 && is_held {
+            let short = seed.once_in(2);
+            op.hold = Some(seed.often_edge(1, if short { room.min(2) } else { room }));
+        }
+    }
+}
+
+/// An operation beside one with a hold. It starts a tick before that one's end, at it, a tick
+/// before its boards are free, or then; or it comes before that one, and its own hold ends when
+/// that one starts, or a tick later.
+fn beside_hold(seed: &mut Seed, len: u64, one: &Op, mut op: Op) -> Op {
+    (op.dur, op.hold) = (1, None);
+    if one.start > 1 && seed.once_in(3) {
+        op.start = seed.below(one.start - 1);
+        op.hold = Some(one.start - op.end() + seed.below(2));
+        return op;
+    }
+    let (end, free) = (one.end(), one.held_to());
+    op.start = seed.one_of(&[end - 1, end, free - 1, free]).min(len - 1);
+    if op.end() < len && seed.once_in(3) {
+        op.hold = Some(seed.often_edge(1, len - op.end()));
+    }
+    op
+}
+
+/// An operation with a hold that writes a cell, among others that start around the end of it
+/// and around its own end. Some of them are on its board, some read its cell, and often it is the
+/// decider. Most of these tables are short.
+fn settling_table(seed: &mut Seed) -> Table {
+    let longest = seed.one_of(&[14, 14, 14, 1000]);
+    let shape = Shape {
+        p: seed.between(5, longest),
+        boards: seed.between(2, 5),
+        cells: 1,
+        modes: seed.between(1, 3),
+        ops: seed.between(2, 4),
+        longest: 2,
+    };
+    let mut table = some_table(seed, &shape);
+    let which = seed.below(shape.ops);
+    let mut one = table.ops[which as usize].clone();
+    one.start = seed.below(shape.p - 3);
+    let room = shape.p - one.end();
+    (one.hold, one.boards) = (Some(seed.often_edge(1, room)), 1);
+    (one.reads, one.writes) = (0, 1);
+    if seed.once_in(2) {
+        one.modes = full_set(shape.modes);
+        table.decider = Some(which);
+    }
+    for (place, op) in (0..).zip(&mut table.ops) {
+        *op = beside_hold(seed, shape.p, &one, op.clone());
+        let board = 1 + place % (shape.boards - 1);
+        op.boards = 1 << if seed.once_in(3) { 0 } else { board };
+        (op.reads, op.writes) = (seed.below(2), 0);
+    }
+    table.ops[which as usize] = one;
+    table
+}
+
+/// Its bytes.
+pub fn settling(seed: &mut Seed) -> Vec<u8> {
+    bytes_of(&settling_table(seed))
 }
 
 // ---- tables whose runs can be laid out ----------------------------------
@@ -463,6 +585,7 @@ fn lone_op(seed: &mut Seed, shape: &Shape, place: u64, start: u64) -> Op {
     Op {
         start,
         dur: 1,
+        hold: None,
         boards: 1 << place,
         reads: 0,
         writes: 0,
@@ -507,12 +630,30 @@ fn gapped_table(seed: &mut Seed, shape: &Shape) -> Table {
     table
 }
 
+/// An accepted table with operations of a tick on one board, one at its beginning and the others
+/// near its end, in every mode: as in K4 not all periods above a right one are right, and fewer of
+/// them with holds.
+fn spread_table(seed: &mut Seed, shape: &Shape) -> Table {
+    let mut table = some_table(seed, shape);
+    for (place, op) in (0..).zip(&mut table.ops) {
+        let start = seed.below(2) + if place == 0 { 0 } else { shape.p - 3 };
+        *op = lone_op(seed, shape, 0, start);
+        op.modes = full_set(shape.modes);
+    }
+    mend(seed, shape, &mut table);
+    table
+}
+
 /// Any, or one of those that are rarely drawn otherwise.
 fn tiny_table(seed: &mut Seed) -> Table {
     let mut shape = tiny_shape(seed);
-    let kind = seed.below(9);
+    let kind = seed.below(10);
     if kind < 3 {
         return good_table(seed, &shape);
+    }
+    if kind == 9 {
+        (shape.p, shape.ops) = (seed.between(6, 8), seed.between(2, 3));
+        return spread_table(seed, &shape);
     }
     shape.cells = seed.between(1, 2);
     if kind < 5 {
@@ -553,7 +694,8 @@ pub fn tiny(seed: &mut Seed) -> Table {
     while !has_few_runs(&table) {
         table = tiny_table(seed);
     }
-    perhaps_decided(seed, table)
+    let table = perhaps_decided(seed, table);
+    perhaps_held(seed, table)
 }
 
 // ---- accepted tables of all sizes ---------------------------------------
@@ -562,26 +704,33 @@ pub fn tiny(seed: &mut Seed) -> Table {
 pub fn small(seed: &mut Seed) -> Table {
     let shape = small_shape(seed);
     let table = either_table(seed, &shape);
-    perhaps_decided(seed, table)
+    let table = perhaps_decided(seed, table);
+    perhaps_held(seed, table)
 }
 
-/// Accepted, up to the highest counts.
+/// Accepted, up to the highest counts; sometimes with few operations, so that there is room for
+/// long holds.
 pub fn large(seed: &mut Seed) -> Table {
-    let shape = large_shape(seed);
+    let mut shape = large_shape(seed);
+    if seed.once_in(3) {
+        shape.ops = seed.between(1, 4);
+    }
     let table = either_table(seed, &shape);
-    perhaps_decided(seed, table)
+    let table = perhaps_decided(seed, table);
+    perhaps_held(seed, table)
 }
 
-/// Accepted, every count at its highest, without a decider.
+/// Accepted, every count at its highest, without a decider and without holds.
 pub fn largest(seed: &mut Seed) -> Table {
     let shape = largest_shape(seed);
     either_table(seed, &shape)
 }
 
-/// The same, or with a decider.
+/// The same, or with a decider, or with holds, or with both.
 pub fn any_largest(seed: &mut Seed) -> Table {
     let table = largest(seed);
-    perhaps_decided(seed, table)
+    let table = perhaps_decided(seed, table);
+    perhaps_held(seed, table)
 }
 
 /// Accepted, with as many operations and modes as there may be, and a decider.
@@ -590,6 +739,19 @@ pub fn longest_decided(seed: &mut Seed) -> Table {
         let table = largest(seed);
         let table = decided(seed, table);
         if table.ops.len() == 32 && table.decider.is_some() {
+            return table;
+        }
+    }
+}
+
+/// The same, and each operation has a hold: nothing has more bytes.
+pub fn longest_held(seed: &mut Seed) -> Table {
+    loop {
+        let mut table = longest_decided(seed);
+        for which in 0..table.ops.len() {
+            hold_op(seed, &mut table, which, 1000);
+        }
+        if table.ops.iter().all(|op| op.hold.is_some()) {
             return table;
         }
     }
@@ -610,6 +772,7 @@ pub fn whole(seed: &mut Seed) -> Vec<u8> {
         let shape = small_shape(seed);
         let mut table = some_table(seed, &shape);
         name_any(seed, &mut table);
+        hold_any(seed, &mut table);
         return bytes_of(&table);
     }
     bytes_of(&good(seed))
@@ -627,6 +790,7 @@ fn clashing_table(seed: &mut Seed) -> Table {
     shape.longest = shape.p;
     let mut table = some_table(seed, &shape);
     name_any(seed, &mut table);
+    hold_any(seed, &mut table);
     table
 }
 
@@ -650,6 +814,7 @@ fn racing_table(seed: &mut Seed) -> Table {
         table.ops[last].boards |= 1 << seed.below(last as u64);
     }
     name_any(seed, &mut table);
+    hold_any(seed, &mut table);
     table
 }
 
@@ -663,19 +828,29 @@ pub fn racing(seed: &mut Seed) -> Vec<u8> {
     bytes_of(&racing_table(seed))
 }
 
+/// No hold, or a short one.
+fn short_hold(seed: &mut Seed) -> Option<u64> {
+    let hold = seed.between(1, 3);
+    seed.once_in(2).then(|| hold)
+}
+
 /// Two operations that just touch, or overlap by one tick, on one board or on
-/// one cell; the others are moved out of the way by their modes or left out.
+/// one cell; the others are moved out of the way by their modes or left out. Where the
+/// first has a hold, it is the end of it or that of its duration.
 pub fn touching(seed: &mut Seed) -> Vec<u8> {
     let mut table = small(seed);
     table.ops.truncate(1);
     let mut second = table.ops[0].clone();
-    second.start = table.ops[0].end() - seed.below(2);
-    second.dur = 1;
+    let first = &mut table.ops[0];
+    (first.hold, second.hold) = (short_hold(seed), short_hold(seed));
+    let until = seed.one_of(&[first.held_to(), first.held_to(), first.end()]);
+    (second.start, second.dur) = (until - seed.below(2), 1);
+    table.len = table.len.max(first.held_to());
     if seed.once_in(2) {
         second.boards = 1 << seed.below(table.boards);
         second.writes = some_set(seed, table.cells, 2);
     }
-    table.len = table.len.max(second.end());
+    table.len = table.len.max(second.held_to());
     table.ops.push(second);
     if seed.once_in(2) {
         table.ops.swap(0, 1);
@@ -740,6 +915,7 @@ fn ring_tick(seed: &mut Seed) -> Op {
     Op {
         start: seed.below(1000),
         dur: 1,
+        hold: None,
         boards: 1,
         reads: 0,
         writes: 0,
@@ -782,6 +958,7 @@ fn ring_op(seed: &mut Seed, q: u64, taken: &[bool]) -> Option<Op> {
     let mut op = Op {
         start: seed.below(99) + if late { 900 } else { 0 },
         dur: seed.between(1, 2),
+        hold: None,
         boards: 1,
         reads: 0,
         writes: 0,
@@ -871,7 +1048,7 @@ fn edge_op(seed: &mut Seed, table: &mut Table) {
     let (p, boards, cells, modes) = (table.len, table.boards, table.cells, table.modes);
     let which = seed.below(table.ops.len() as u64) as usize;
     let op = &mut table.ops[which];
-    match seed.below(8) {
+    match seed.below(12) {
         0 => op.dur = seed.one_of(&[0, 1, 65535]),
         1 => op.dur = p - op.start,
         2 => op.dur = p - op.start + 1,
@@ -879,7 +1056,11 @@ fn edge_op(seed: &mut Seed, table: &mut Table) {
         4 => op.boards = edge_set(seed, boards),
         5 => op.reads = edge_set(seed, cells),
         6 => op.writes = edge_set(seed, cells),
-        _ => op.modes = edge_set(seed, modes),
+        7 => op.modes = edge_set(seed, modes),
+        8 => op.hold = Some(seed.one_of(&[0, 0, 1, 65535, 65536 - op.end()])),
+        9 => op.hold = Some(p - op.end()),
+        10 => op.hold = Some(p - op.end() + 1),
+        _ => op.hold = None,
     }
 }
 
@@ -956,6 +1137,14 @@ fn spoil_op(seed: &mut Seed, table: &Table, six: &mut [u64], place: usize) {
     };
 }
 
+/// A hold of 0, or one that runs past p; it is marked.
+fn spoil_hold(seed: &mut Seed, table: &Table, six: &[u64], two: &mut [u64]) {
+    let end = six[0] + six[1];
+    let (past, wrap) = (table.len + 1, 65536_u64.saturating_sub(end));
+    two[1] = seed.one_of(&[0, 0, past.saturating_sub(end), 65535, wrap.min(65535)]);
+    two[0] = 1;
+}
+
 /// A number put out of its range in the table that is given.
 fn spoil(seed: &mut Seed, table: &Table, numbers: &mut Numbers, place: usize) {
     let ops = table.ops.len() as u64;
@@ -965,28 +1154,43 @@ fn spoil(seed: &mut Seed, table: &Table, numbers: &mut Numbers, place: usize) {
             numbers.decider = seed.one_of(&[ops, ops + 1, 32, 255]);
         }
         Some(place) => {
-            let first = place - place % NUMBERS_PER_OP;
-            let six = &mut numbers.ops[first..first + NUMBERS_PER_OP];
-            spoil_op(seed, table, six, place - first);
+            let (op, place) = (place / PLACES_PER_OP, place % PLACES_PER_OP);
+            let six = &mut numbers.ops[NUMBERS_PER_OP * op..][..NUMBERS_PER_OP];
+            let two = &mut numbers.holds[HOLDS_PER_OP * op..][..HOLDS_PER_OP];
+            match place {
+                0 | 1 => spoil_op(seed, table, six, place),
+                2 => spoil_hold(seed, table, six, two),
+                _ => spoil_op(seed, table, six, place - 1),
+            }
         }
     }
 }
 
+/// An operation; another draw where the first has no hold.
+fn often_held(seed: &mut Seed, numbers: &Numbers) -> usize {
+    let ops = numbers.whole_ops() as u64;
+    let op = seed.below(ops) as usize;
+    if numbers.holds[HOLDS_PER_OP * op] != 0 {
+        return op;
+    }
+    seed.below(ops) as usize
+}
+
 /// The numbers of one field, by their places in layout order: the length, the counts,
-/// the sets of modes or the last few of them, an operation or its sets, or the decider.
+/// the sets of modes or the last few of them, an operation, its sets with its hold or without
+/// it, or the decider.
 fn numbers_of_field(seed: &mut Seed, numbers: &Numbers) -> Range<usize> {
     let (before_ops, decider) = (numbers.before_ops(), numbers.decider_place());
-    match seed.below(9) {
+    match seed.below(12) {
         0 => 0..1,
         1 | 2 => 1..4,
         3 => 4..before_ops,
         4 => 4.max(before_ops - 3)..before_ops,
         5 if numbers.marked().is_some() => decider..decider + 1,
         _ => {
-            let ops = numbers.ops.len() / NUMBERS_PER_OP;
-            let first = before_ops + NUMBERS_PER_OP * seed.below(ops as u64) as usize;
-            let dates = if seed.once_in(3) { 2 } else { 0 };
-            first + dates..first + NUMBERS_PER_OP
+            let first = before_ops + PLACES_PER_OP * often_held(seed, numbers);
+            let dates = seed.one_of(&[0, 0, 0, 2, 3, 3]) as usize;
+            first + dates..first + PLACES_PER_OP
         }
     }
 }
@@ -1072,15 +1276,31 @@ fn perhaps_count_decider(seed: &mut Seed, table: &mut Table) {
     }
 }
 
+/// Half of them with holds of one tick, each operation or some. Those that are apart stay so;
+/// sometimes there are as many modes as there may be.
+fn perhaps_count_holds(seed: &mut Seed, table: &mut Table) {
+    if seed.once_in(4) {
+        set_modes(seed, table, 32);
+    }
+    let kind = seed.below(4);
+    for op in &mut table.ops {
+        if kind == 0 || kind == 1 && seed.once_in(2) {
+            op.start = op.start.min(table.len - 2);
+            (op.dur, op.hold) = (1, Some(1));
+        }
+    }
+}
+
 /// 31, 32, 33 or 34 operations; also none.
 pub fn counted(seed: &mut Seed) -> Vec<u8> {
     let ops = seed.one_of(&[0, 31, 32, 33, 33, 34]);
     let apart = !seed.once_in(3);
     let mut table = table_of(seed, ops, apart);
+    perhaps_count_holds(seed, &mut table);
     perhaps_count_decider(seed, &mut table);
     let mut bytes = bytes_of(&table);
     if seed.once_in(3) {
-        let cut = seed.below(22);
+        let cut = seed.below(24);
         bytes.truncate(bytes.len() - (cut as usize).min(bytes.len()));
     }
     bytes
@@ -1155,20 +1375,54 @@ pub fn wrong_length(seed: &mut Seed, bytes: &[u8]) -> Vec<u8> {
     let mut out = bytes.to_vec();
     let (at, behind) = some_field(seed, bytes);
     let good = number_in(&bytes[at + 1..at + 3]);
-    let bad = match seed.below(7) {
+    let bad = match seed.below(9) {
         0 => good + 1,
         1 => good.wrapping_sub(1) & 0xffff,
-        2 => good + 4,
-        3 => good + 256,
-        4 => 0,
-        5 => 65535,
+        2 => good + 2,
+        3 => good.wrapping_sub(2) & 0xffff,
+        4 => good + 4,
+        5 => good + 256,
+        6 => 0,
+        7 => 65535,
         _ => seed.below(65536),
     };
-    out[at + 1] = (bad >> 8) as u8;
-    out[at + 2] = bad as u8;
+    put_length(&mut out, at, bad);
     if seed.once_in(2) && bad > good && bad < good + 8 {
         let more = vec![0; (bad - good) as usize];
         out.splice(behind..behind, more);
+    }
+    out
+}
+
+/// The length of the field at this offset.
+fn put_length(bytes: &mut [u8], at: usize, length: u64) {
+    bytes[at + 1] = (length >> 8) as u8;
+    bytes[at + 2] = length as u8;
+}
+
+/// The last operation's field or another one, with a length around those that it may have: its
+/// value gets or loses bytes behind the duration, or stays as it is.
+pub fn other_op_length(seed: &mut Seed, bytes: &[u8]) -> Vec<u8> {
+    let mut ops = offsets(bytes);
+    ops.retain(|at| bytes[*at] == 0x04);
+    let at = match seed.below(2) {
+        0 => ops[ops.len() - 1],
+        _ => ops[seed.below(ops.len() as u64) as usize],
+    };
+    let good = number_in(&bytes[at + 1..at + 3]) as usize;
+    let bad = seed.one_of(&[16, 17, 18, 19, 19, 20, 21, 21, 22, 274, 276]);
+    let mut out = bytes.to_vec();
+    put_length(&mut out, at, bad);
+    if seed.once_in(3) {
+        return out;
+    }
+    // behind the header, the start and the duration
+    let (place, bad) = (at + 7, bad as usize);
+    if bad > good {
+        let byte = seed.below(2) as u8;
+        out.splice(place..place, vec![byte; (bad - good).min(8)]);
+    } else {
+        out.drain(place..place + good - bad);
     }
     out
 }
@@ -1230,22 +1484,27 @@ pub fn noise(seed: &mut Seed) -> Vec<u8> {
 fn good_decided(seed: &mut Seed) -> Table {
     if seed.once_in(4) {
         let mut table = table_of(seed, 32, true);
+        perhaps_count_holds(seed, &mut table);
         table.ops[0].modes = full_set(table.modes);
         table.decider = Some(0);
         return table;
     }
     let table = good(seed);
-    decided(seed, table)
+    let table = decided(seed, table);
+    perhaps_held(seed, table)
 }
 
 /// What may stand behind a field 05, where nothing is due: it again, the operation before
 /// it, an operation's header, or up to three bytes.
 fn behind_decider(seed: &mut Seed, bytes: &[u8]) -> Vec<u8> {
-    let end = bytes.len();
+    let decider = bytes.len() - 4;
     match seed.below(5) {
-        0 => bytes[end - 4..].to_vec(),
-        1 => bytes[end - 25..end - 4].to_vec(),
-        2 => vec![0x04, 0x00, 0x12],
+        0 => bytes[decider..].to_vec(),
+        1 => {
+            let fields = offsets(&bytes[..decider]);
+            bytes[fields[fields.len() - 1]..decider].to_vec()
+        }
+        2 => vec![0x04, 0x00, seed.one_of(&[18, 20]) as u8],
         _ => {
             let tag = seed.one_of(&[0, 4, 4, 5, 5, 0xff]) as u8;
             let length = seed.below(3) as usize;
@@ -1296,7 +1555,7 @@ fn damage(seed: &mut Seed, bytes: &[u8]) -> Vec<u8> {
 
 /// A table as bytes, of any kind.
 pub fn table_bytes(seed: &mut Seed) -> Vec<u8> {
-    match seed.below(32) {
+    match seed.below(38) {
         0..=7 => whole(seed),
         8 | 9 => clashing(seed),
         10 | 11 => racing(seed),
@@ -1304,12 +1563,17 @@ pub fn table_bytes(seed: &mut Seed) -> Vec<u8> {
         13..=15 => edges(seed),
         16 => counted(seed),
         17 => noise(seed),
-        18..=21 => spoiled_bytes(seed),
+        18..=21 | 32 | 33 => spoiled_bytes(seed),
         22 | 23 => deciding(seed),
         24 | 25 => around_decider(seed),
         26 => {
             let bytes = counted(seed);
             damage_or_keep(seed, bytes)
+        }
+        27..=29 => settling(seed),
+        30 | 31 => {
+            let bytes = bytes_of(&good(seed));
+            other_op_length(seed, &bytes)
         }
         _ => {
             let bytes = bytes_of(&good(seed));
@@ -1447,10 +1711,11 @@ pub fn reply(seed: &mut Seed) -> Vec<u8> {
 /// Whole numbers: of a table that is accepted, or clashes, or races, or has something that
 /// is too early.
 pub fn whole_numbers(seed: &mut Seed) -> Numbers {
-    let table = match seed.below(14) {
+    let table = match seed.below(19) {
         0 => clashing_table(seed),
         1 | 2 => racing_table(seed),
         3 | 4 => deciding_table(seed),
+        5..=9 => settling_table(seed),
         _ => good(seed),
     };
     numbers_of(&table)
@@ -1468,10 +1733,25 @@ fn too_large(seed: &mut Seed, number: u64) -> u64 {
     }
 }
 
+/// A hold made too large, often with low bits that are fine; where it was not marked, it is so in
+/// every second one.
+fn enlarge_hold(seed: &mut Seed, numbers: &mut Numbers) {
+    let holds = (numbers.holds.len() / HOLDS_PER_OP) as u64;
+    let op = seed.below(holds) as usize;
+    let two = &mut numbers.holds[HOLDS_PER_OP * op..][..HOLDS_PER_OP];
+    two[1] = match seed.below(2) {
+        0 => too_large(seed, two[1].max(1)),
+        _ => seed.one_of(&[1 << 16, 1 << 32, 1 << 48]) + seed.between(1, 2),
+    };
+    if seed.once_in(2) {
+        two[0] = 1;
+    }
+}
+
 /// One number of the head or of an operation made too large, or the decider where it is
-/// there.
+/// there, or a hold.
 fn enlarge(seed: &mut Seed, numbers: &mut Numbers) {
-    let kind = seed.below(9);
+    let kind = seed.below(11);
     match kind {
         0 => numbers.p = too_large(seed, numbers.p),
         1 => numbers.boards = too_large(seed, numbers.boards),
@@ -1483,6 +1763,7 @@ fn enlarge(seed: &mut Seed, numbers: &mut Numbers) {
             numbers.follow[mode] = too_large(seed, numbers.follow[mode]);
         }
         6 if numbers.mark != 0 => numbers.decider = too_large(seed, numbers.decider),
+        7 | 8 if numbers.holds.len() > 1 => enlarge_hold(seed, numbers),
         _ if !numbers.ops.is_empty() => {
             let place = seed.below(numbers.ops.len() as u64) as usize;
             numbers.ops[place] = too_large(seed, numbers.ops[place]);
@@ -1524,6 +1805,25 @@ fn recount_ops(seed: &mut Seed, numbers: &mut Numbers) {
     }
 }
 
+/// Marks and holds left out at the end, or more behind it; or the last operation left out with
+/// its hold.
+fn recount_holds(seed: &mut Seed, numbers: &mut Numbers) {
+    let (ops, holds) = (&mut numbers.ops, &mut numbers.holds);
+    match seed.below(8) {
+        0 => holds.clear(),
+        1 | 2 => holds.push(seed.below(3)),
+        3 | 4 => {
+            let more = seed.between(1, 5) as usize;
+            holds.resize(holds.len() + more, seed.below(2));
+        }
+        5 | 6 => holds.truncate(holds.len().saturating_sub(seed.between(1, 3) as usize)),
+        _ => {
+            ops.truncate(ops.len().saturating_sub(NUMBERS_PER_OP));
+            holds.truncate(holds.len().saturating_sub(HOLDS_PER_OP));
+        }
+    }
+}
+
 /// A decider in its range or out of it, also beyond its byte with low bits that are fine.
 fn redecide(seed: &mut Seed, numbers: &mut Numbers) {
     let ops = (numbers.ops.len() / NUMBERS_PER_OP) as u64;
@@ -1536,12 +1836,31 @@ fn redecide(seed: &mut Seed, numbers: &mut Numbers) {
     (numbers.mark, numbers.decider) = (1, decider);
 }
 
-/// The mark says the same by any number but 0. Where it is 0 the decider is any number.
+/// The mark says the same by any number but 0.
+fn other_mark(seed: &mut Seed) -> u64 {
+    seed.one_of(&[1, 1, 2, 255, 256, 1 << 16, 1 << 32, 1 << 63, u64::MAX])
+}
+
+/// Where the mark is 0 the decider is any number.
 fn remark(seed: &mut Seed, numbers: &mut Numbers) {
     if numbers.mark != 0 {
-        numbers.mark = seed.one_of(&[1, 1, 2, 255, 256, 1 << 16, 1 << 32, 1 << 63, u64::MAX]);
+        numbers.mark = other_mark(seed);
     } else if seed.once_in(2) {
         numbers.decider = seed.one_of(&[1, 31, 32, 255, 256, 1 << 32, u64::MAX]);
+    }
+}
+
+/// The same for each hold, in every second table.
+fn remark_holds(seed: &mut Seed, numbers: &mut Numbers) {
+    if seed.once_in(2) {
+        return;
+    }
+    for two in numbers.holds.chunks_exact_mut(HOLDS_PER_OP) {
+        if two[0] != 0 {
+            two[0] = other_mark(seed);
+        } else if seed.once_in(2) {
+            two[1] = seed.one_of(&[1, 2, 1000, 65535, 65536, 1 << 32, u64::MAX]);
+        }
     }
 }
 
@@ -1549,10 +1868,13 @@ fn remark(seed: &mut Seed, numbers: &mut Numbers) {
 pub fn counted_numbers(seed: &mut Seed) -> Numbers {
     let ops = seed.one_of(&[0, 31, 32, 32, 33, 34]);
     let mut table = table_of(seed, ops, true);
+    perhaps_count_holds(seed, &mut table);
     perhaps_count_decider(seed, &mut table);
     let mut numbers = numbers_of(&table);
-    if seed.once_in(3) {
-        recount_ops(seed, &mut numbers);
+    match seed.below(6) {
+        0 | 1 => recount_ops(seed, &mut numbers),
+        2 | 3 => recount_holds(seed, &mut numbers),
+        _ => {}
     }
     numbers
 }
@@ -1561,10 +1883,11 @@ pub fn counted_numbers(seed: &mut Seed) -> Numbers {
 pub fn damaged_numbers(seed: &mut Seed) -> Numbers {
     let mut numbers = whole_numbers(seed);
     for _ in 0..seed.between(1, 3) {
-        match seed.below(5) {
+        match seed.below(6) {
             0 => recount_followers(seed, &mut numbers),
             1 => recount_ops(seed, &mut numbers),
             2 => redecide(seed, &mut numbers),
+            3 => recount_holds(seed, &mut numbers),
             _ => enlarge(seed, &mut numbers),
         }
     }
@@ -1581,6 +1904,7 @@ pub fn numbers(seed: &mut Seed) -> Numbers {
         _ => damaged_numbers(seed),
     };
     remark(seed, &mut numbers);
+    remark_holds(seed, &mut numbers);
     numbers
 }
 
@@ -1629,6 +1953,7 @@ pub fn widest() -> Table {
     let op = |start, dur, boards| Op {
         start,
         dur,
+        hold: None,
         boards,
         reads: 0,
         writes: 0,
@@ -1667,6 +1992,7 @@ pub fn relabelled(table: &Table) -> Table {
     let lift = |op: &Op| Op {
         start: op.start,
         dur: op.dur,
+        hold: op.hold,
         boards: lifted(op.boards, boards),
         reads: lifted(op.reads, cells),
         writes: lifted(op.writes, cells),

@@ -1,6 +1,6 @@
 //! Reading, judging and writing of tables (document 01, "The table", "Bytes",
-//! "Numbers of refusal"; document 02, No. 4 for the decider and No. 7 for the places
-//! where a number is wrong).
+//! "Numbers of refusal"; document 02, No. 4 for the decider, No. 7 for the places
+//! where a number is wrong and No. 9 for the hold).
 
 /// "input ends inside a field's header or value"
 pub const SHORT: u32 = 1;
@@ -30,6 +30,15 @@ pub const MOST_OPS: usize = 32;
 /// "six for each operation, in layout order"
 pub const NUMBERS_PER_OP: usize = 6;
 
+/// For each operation a mark and the hold, beside its six numbers.
+pub const HOLDS_PER_OP: usize = 2;
+
+/// Those that stand in the layout: the six and the hold.
+pub const PLACES_PER_OP: usize = NUMBERS_PER_OP + 1;
+
+/// "SIZE now admits 18 and 20"
+pub const OP_LENGTHS: [usize; 2] = [18, 20];
+
 /// "A refusal returns its number, a and b".
 #[derive(Clone, Copy, Debug, PartialEq, Eq)]
 pub struct Refusal {
@@ -39,11 +48,13 @@ pub struct Refusal {
 }
 
 /// "An operation has a start t, a duration d ...; a set of boards ...; cells it
-/// reads; cells it writes ...; a set of modes". Member x of a set is bit x.
+/// reads; cells it writes ...; a set of modes". Member x of a set is bit x. Its field
+/// has 20 bytes where it has a hold, and 18 where it has none, which "means hold 0".
 #[derive(Clone, Debug, PartialEq, Eq)]
 pub struct Op {
     pub start: u64,
     pub dur: u64,
+    pub hold: Option<u64>,
     pub boards: u64,
     pub reads: u64,
     pub writes: u64,
@@ -66,7 +77,9 @@ pub struct Table {
 
 /// "A table handed over as numbers (six for each operation, in layout order)". An
 /// optional number "is handed over beside these with a mark that says whether it is
-/// there": the mark is unset where it is 0, and the decider counts for nothing then.
+/// there": the mark is unset where it is 0, and the number counts for nothing then. So
+/// is the decider, and so is the hold of each operation, two numbers for each in
+/// `holds`: the mark and the hold.
 #[derive(Clone, Debug, PartialEq, Eq)]
 pub struct Numbers {
     pub p: u64,
@@ -76,6 +89,7 @@ pub struct Numbers {
     pub first: u64,
     pub follow: Vec<u64>,
     pub ops: Vec<u64>,
+    pub holds: Vec<u64>,
     pub mark: u64,
     pub decider: u64,
 }
@@ -86,12 +100,36 @@ impl Numbers {
         5 + self.follow.len()
     }
 
-    /// The place of the decider, which comes after all others.
-    pub fn decider_place(&self) -> usize {
-        self.before_ops() + self.ops.len()
+    /// How many operations have all their numbers.
+    pub fn whole_ops(&self) -> usize {
+        let holds = self.holds.len() / HOLDS_PER_OP;
+        holds.min(self.ops.len() / NUMBERS_PER_OP)
     }
 
-    /// The number at this place in layout order, over all fields. The mark is in none.
+    /// No operation has numbers missing.
+    pub fn is_whole(&self) -> bool {
+        let whole = self.whole_ops();
+        let lengths = (self.ops.len(), self.holds.len());
+        lengths == (NUMBERS_PER_OP * whole, HOLDS_PER_OP * whole)
+    }
+
+    /// The place of the decider, which comes after all others.
+    pub fn decider_place(&self) -> usize {
+        self.before_ops() + PLACES_PER_OP * self.whole_ops()
+    }
+
+    /// A number of an operation: its start, duration, hold, boards, reads, writes, modes.
+    fn number_of_op(&mut self, op: usize, place: usize) -> &mut u64 {
+        let first = NUMBERS_PER_OP * op;
+        match place {
+            0 | 1 => &mut self.ops[first + place],
+            2 => &mut self.holds[HOLDS_PER_OP * op + 1],
+            _ => &mut self.ops[first + place - 1],
+        }
+    }
+
+    /// The number at this place in layout order, over all fields. A mark is in none; a
+    /// hold that is not marked has a place all the same.
     pub fn number(&mut self, place: usize) -> &mut u64 {
         let (before_ops, decider) = (self.before_ops(), self.decider_place());
         match place {
@@ -101,9 +139,19 @@ impl Numbers {
             3 => &mut self.modes,
             4 => &mut self.first,
             _ if place < before_ops => &mut self.follow[place - 5],
-            _ if place < decider => &mut self.ops[place - before_ops],
+            _ if place < decider => {
+                let place = place - before_ops;
+                self.number_of_op(place / PLACES_PER_OP, place % PLACES_PER_OP)
+            }
             _ => &mut self.decider,
         }
+    }
+
+    /// The operations that have all their numbers.
+    pub fn whole(&self) -> impl Iterator<Item = Op> + '_ {
+        let holds = self.holds.chunks_exact(HOLDS_PER_OP);
+        let ops = self.ops.chunks_exact(NUMBERS_PER_OP).zip(holds);
+        ops.map(|(six, two)| op_of(six, two))
     }
 
     /// The decider, where the mark says that it is there.
@@ -116,6 +164,17 @@ impl Op {
     /// "from t up to but not including t + d": this is t + d.
     pub fn end(&self) -> u64 {
         self.start + self.dur
+    }
+
+    /// "Boards are held until start + duration + hold".
+    pub fn held_to(&self) -> u64 {
+        self.end() + self.hold.unwrap_or(0)
+    }
+
+    /// How many bytes its field has, with the header.
+    pub fn field_bytes(&self) -> u64 {
+        let length = OP_LENGTHS[usize::from(self.hold.is_some())];
+        3 + length as u64
     }
 
     /// "an operation runs in it when that mode is in its set"
@@ -221,13 +280,25 @@ fn in_time(p: u64, op: &Op) -> bool {
     1 <= op.dur && op.start.saturating_add(op.dur) <= p
 }
 
+/// "a 20-byte field with hold 0 is RANGE and blames the hold; so does a hold that alone
+/// runs past p". Whether the duration is good is judged before it.
+fn held_in_time(p: u64, op: &Op, hold: u64) -> bool {
+    let held_to = op.start.saturating_add(op.dur).saturating_add(hold);
+    1 <= hold && held_to <= p
+}
+
 /// "An operation that ends after p blames its duration": a start has no range of
 /// its own. "A set of boards, not empty; cells it reads; cells it writes (either
-/// set may be empty, and they may meet); a set of modes, not empty".
+/// set may be empty, and they may meet); a set of modes, not empty". A hold that is not
+/// there has no bytes.
 fn judge_op(at: u64, table: &Table, op: &Op) -> Result<(), Refusal> {
+    let hold = op.hold.map_or((0, 0, true), |hold| {
+        (2, hold, held_in_time(table.len, op, hold))
+    });
     let numbers = [
         (2, op.start, true),
         (2, op.dur, in_time(table.len, op)),
+        hold,
         (2, op.boards, filled_within(op.boards, table.boards)),
         (4, op.reads, names_within(op.reads, table.cells)),
         (4, op.writes, names_within(op.writes, table.cells)),
@@ -278,16 +349,22 @@ impl<'a> Fields<'a> {
     }
 
     /// "Within one: header complete, tag due, not a 33rd, length, value
-    /// complete"; the ranges are judged by the caller. `before` tells how many
-    /// operations were read before this field.
-    pub fn field(&mut self, tag: u8, length: usize, before: usize) -> Result<&'a [u8], Refusal> {
+    /// complete"; the ranges are judged by the caller. `lengths` are those that the tag
+    /// has, and `before` tells how many operations were read before this field.
+    pub fn field(
+        &mut self,
+        tag: u8,
+        lengths: &[usize],
+        before: usize,
+    ) -> Result<&'a [u8], Refusal> {
         let at = self.offset();
         let rest = &self.bytes[self.place..];
         demand(!rest.is_empty(), ORDER, at)?;
         demand(rest.len() >= 3, SHORT, at)?;
         demand(rest[0] == tag, ORDER, at)?;
         demand(before < MOST_OPS, MANY, at)?;
-        demand(number_in(&rest[1..3]) == length as u64, SIZE, at)?;
+        let length = number_in(&rest[1..3]) as usize;
+        demand(lengths.contains(&length), SIZE, at)?;
         demand(rest.len() >= 3 + length, SHORT, at)?;
         self.place += 3 + length;
         Ok(&rest[3..3 + length])
@@ -297,7 +374,7 @@ impl<'a> Fields<'a> {
 /// "01, length 2: p."
 fn read_length(fields: &mut Fields) -> Result<u64, Refusal> {
     let at = fields.offset();
-    let p = number_in(fields.field(0x01, 2, 0)?);
+    let p = number_in(fields.field(0x01, &[2], 0)?);
     judge_length(at, p)?;
     Ok(p)
 }
@@ -305,7 +382,7 @@ fn read_length(fields: &mut Fields) -> Result<u64, Refusal> {
 /// "02, length 3: boards, cells, modes, a byte each."
 fn read_counts(fields: &mut Fields) -> Result<(u64, u64, u64), Refusal> {
     let at = fields.offset();
-    let value = fields.field(0x02, 3, 0)?;
+    let value = fields.field(0x02, &[3], 0)?;
     let (boards, cells, modes) = (
         u64::from(value[0]),
         u64::from(value[1]),
@@ -319,31 +396,34 @@ fn read_counts(fields: &mut Fields) -> Result<(u64, u64, u64), Refusal> {
 /// 32-bit sets."
 fn read_turns(fields: &mut Fields, modes: u64) -> Result<(u64, Vec<u64>), Refusal> {
     let at = fields.offset();
-    let value = fields.field(0x03, 4 + 4 * modes as usize, 0)?;
+    let value = fields.field(0x03, &[4 + 4 * modes as usize], 0)?;
     let first = number_in(&value[0..4]);
     let follow: Vec<u64> = value[4..].chunks(4).map(number_in).collect();
     judge_turns(at, modes, first, &follow)?;
     Ok((first, follow))
 }
 
-/// "start, duration, boards (16 bits each), reads, writes, modes (32 bits each)"
-fn op_in(value: &[u8]) -> Op {
+/// "start, duration, boards (16 bits each), reads, writes, modes (32 bits each)"; in 20
+/// bytes "with a 16-bit hold after the duration".
+pub fn op_in(value: &[u8]) -> Op {
+    let (dates, sets) = value.split_at(value.len() - 14);
     Op {
-        start: number_in(&value[0..2]),
-        dur: number_in(&value[2..4]),
-        boards: number_in(&value[4..6]),
-        reads: number_in(&value[6..10]),
-        writes: number_in(&value[10..14]),
-        modes: number_in(&value[14..18]),
+        start: number_in(&dates[0..2]),
+        dur: number_in(&dates[2..4]),
+        hold: dates.get(4..6).map(number_in),
+        boards: number_in(&sets[0..2]),
+        reads: number_in(&sets[2..6]),
+        writes: number_in(&sets[6..10]),
+        modes: number_in(&sets[10..14]),
     }
 }
 
-/// "04, length 18, once for each operation"; there is at least one. After any of them
-/// the input may end, or a field 05 come.
+/// "04, length 18, once for each operation", or 20; there is at least one. After any of
+/// them the input may end, or a field 05 come.
 fn read_ops(fields: &mut Fields, table: &mut Table) -> Result<(), Refusal> {
     loop {
         let at = fields.offset();
-        let op = op_in(fields.field(0x04, 18, table.ops.len())?);
+        let op = op_in(fields.field(0x04, &OP_LENGTHS, table.ops.len())?);
         judge_op(at, table, &op)?;
         table.ops.push(op);
         if fields.at_end() || fields.comes_next(0x05) {
@@ -358,7 +438,7 @@ fn read_decider(fields: &mut Fields, table: &mut Table) -> Result<(), Refusal> {
         return Ok(());
     }
     let at = fields.offset();
-    let decider = number_in(fields.field(0x05, 1, 0)?);
+    let decider = number_in(fields.field(0x05, &[1], 0)?);
     judge_decider(at, table.ops.len(), decider)?;
     table.decider = Some(decider);
     fields.end()
@@ -387,15 +467,20 @@ pub fn read_table(bytes: &[u8]) -> Result<Table, Refusal> {
 
 // ---- clash and race -----------------------------------------------------
 
-/// "An operation holds its boards and uses its cells from t up to but not
-/// including t + d. Two operations that touch ... do not overlap."
+/// "An operation ... uses its cells from t up to but not including t + d. Two operations
+/// that touch ... do not overlap."
 fn overlap(one: &Op, other: &Op) -> bool {
     one.start < other.end() && other.start < one.end()
 }
 
+/// The same for its boards, which "are held until start + duration + hold".
+fn held_together(one: &Op, other: &Op) -> bool {
+    one.start < other.held_to() && other.start < one.held_to()
+}
+
 /// "when they share a board and a mode and overlap"
 pub fn clash(one: &Op, other: &Op) -> bool {
-    one.boards & other.boards != 0 && one.modes & other.modes != 0 && overlap(one, other)
+    one.boards & other.boards != 0 && one.modes & other.modes != 0 && held_together(one, other)
 }
 
 /// "one writes a cell that the other reads or writes"
@@ -404,7 +489,7 @@ fn writes_into(one: &Op, other: &Op) -> bool {
 }
 
 /// "when they share a mode and overlap and one writes a cell that the other
-/// reads or writes"
+/// reads or writes"; "cells ... still go by the duration".
 pub fn race(one: &Op, other: &Op) -> bool {
     let cells = writes_into(one, other) || writes_into(other, one);
     one.modes & other.modes != 0 && overlap(one, other) && cells
@@ -435,7 +520,7 @@ impl Table {
     }
 
     /// "An operation that doesn't run in every mode must start at or after its end",
-    /// which is that of the decider.
+    /// which is that of the decider; "EARLY ... still go by the duration".
     pub fn is_too_early(&self, decider: &Op, op: &Op) -> bool {
         !self.runs_in_every_mode(op) && op.start < decider.end()
     }
@@ -481,9 +566,10 @@ pub fn judge(bytes: &[u8]) -> Result<Table, Refusal> {
 /// The offset of field 03.
 const TURNS_AT: u64 = 5 + 6;
 
-/// The offset that operation `index` has in the layout.
-fn op_offset(modes: u64, index: u64) -> u64 {
-    TURNS_AT + 3 + 4 + 4 * modes + 21 * index
+/// The offset that comes behind these operations in the layout.
+pub fn behind_ops(modes: u64, ops: impl Iterator<Item = Op>) -> u64 {
+    let ops: u64 = ops.map(|op| op.field_bytes()).sum();
+    TURNS_AT + 3 + 4 + 4 * modes + ops
 }
 
 /// Fields 01 to 03. "A wrong count of follower words is SIZE, a number too large
@@ -495,11 +581,12 @@ fn judge_head(numbers: &Numbers) -> Result<(), Refusal> {
     judge_turns(TURNS_AT, numbers.modes, numbers.first, &numbers.follow)
 }
 
-/// The six numbers of an operation in layout order.
-fn op_of(six: &[u64]) -> Op {
+/// The six numbers of an operation in layout order, the mark of its hold and the hold.
+fn op_of(six: &[u64], two: &[u64]) -> Op {
     Op {
         start: six[0],
         dur: six[1],
+        hold: (two[0] != 0).then(|| two[1]),
         boards: six[2],
         reads: six[3],
         writes: six[4],
@@ -507,27 +594,33 @@ fn op_of(six: &[u64]) -> Op {
     }
 }
 
-/// Field 04 for each operation. "An operation with numbers missing SHORT"; not a
-/// 33rd comes before the value, the value before its ranges.
-fn judge_ops(table: &mut Table, numbers: &[u64]) -> Result<(), Refusal> {
-    demand(!numbers.is_empty(), ORDER, op_offset(table.modes, 0))?;
-    for (index, given) in numbers.chunks(NUMBERS_PER_OP).enumerate() {
-        let at = op_offset(table.modes, index as u64);
-        demand(index < MOST_OPS, MANY, at)?;
-        demand(given.len() == NUMBERS_PER_OP, SHORT, at)?;
-        let op = op_of(given);
+/// Field 04 for each operation, of 18 bytes or of 20 as its mark says. "An operation with
+/// numbers missing SHORT", of its six or of its mark and hold; not a 33rd comes before
+/// the value, the value before its ranges. The offset behind the operations.
+fn judge_ops(table: &mut Table, numbers: &Numbers) -> Result<u64, Refusal> {
+    let (mut ops, mut holds) = (&numbers.ops[..], &numbers.holds[..]);
+    let mut at = behind_ops(table.modes, std::iter::empty());
+    demand(ops.len() + holds.len() > 0, ORDER, at)?;
+    while ops.len() + holds.len() > 0 {
+        demand(table.ops.len() < MOST_OPS, MANY, at)?;
+        demand(ops.len() >= NUMBERS_PER_OP, SHORT, at)?;
+        demand(holds.len() >= HOLDS_PER_OP, SHORT, at)?;
+        let (six, more_ops) = ops.split_at(NUMBERS_PER_OP);
+        let (two, more_holds) = holds.split_at(HOLDS_PER_OP);
+        let op = op_of(six, two);
         judge_op(at, table, &op)?;
+        at += op.field_bytes();
         table.ops.push(op);
+        (ops, holds) = (more_ops, more_holds);
     }
-    Ok(())
+    Ok(at)
 }
 
 /// Field 05 behind the operations, "written exactly when" the mark says that it is
 /// there.
-fn judge_marked(table: &mut Table, numbers: &Numbers) -> Result<(), Refusal> {
-    let ops = table.ops.len();
+fn judge_marked(at: u64, table: &mut Table, numbers: &Numbers) -> Result<(), Refusal> {
     if let Some(decider) = numbers.marked() {
-        judge_decider(op_offset(table.modes, ops as u64), ops, decider)?;
+        judge_decider(at, table.ops.len(), decider)?;
     }
     table.decider = numbers.marked();
     Ok(())
@@ -551,8 +644,8 @@ fn table_with(numbers: &Numbers, ops: Vec<Op>) -> Table {
 pub fn read_numbers(numbers: &Numbers) -> Result<Table, Refusal> {
     judge_head(numbers)?;
     let mut table = table_with(numbers, Vec::new());
-    judge_ops(&mut table, &numbers.ops)?;
-    judge_marked(&mut table, numbers)?;
+    let at = judge_ops(&mut table, numbers)?;
+    judge_marked(at, &mut table, numbers)?;
     Ok(table)
 }
 
@@ -590,11 +683,14 @@ fn turns_value(table: &Table) -> Vec<u8> {
     value
 }
 
-/// The value of a field 04.
+/// The value of a field 04: the hold is "written exactly when it is" there.
 fn op_value(op: &Op) -> Vec<u8> {
     let mut value = Vec::new();
     push_number(&mut value, op.start, 2);
     push_number(&mut value, op.dur, 2);
+    if let Some(hold) = op.hold {
+        push_number(&mut value, hold, 2);
+    }
     push_number(&mut value, op.boards, 2);
     push_number(&mut value, op.reads, 4);
     push_number(&mut value, op.writes, 4);
@@ -626,9 +722,10 @@ pub fn bytes_of(table: &Table) -> Vec<u8> {
 
 /// The table as numbers.
 pub fn numbers_of(table: &Table) -> Numbers {
-    let mut ops = Vec::new();
+    let (mut ops, mut holds) = (Vec::new(), Vec::new());
     for op in &table.ops {
         ops.extend_from_slice(&[op.start, op.dur, op.boards, op.reads, op.writes, op.modes]);
+        holds.extend_from_slice(&[u64::from(op.hold.is_some()), op.hold.unwrap_or(0)]);
     }
     Numbers {
         p: table.len,
@@ -638,6 +735,7 @@ pub fn numbers_of(table: &Table) -> Numbers {
         first: table.first,
         follow: table.follow.clone(),
         ops,
+        holds,
         mark: u64::from(table.decider.is_some()),
         decider: table.decider.unwrap_or(0),
     }
@@ -646,10 +744,8 @@ pub fn numbers_of(table: &Table) -> Numbers {
 /// The numbers in the layout, as `bytes_of` writes a table; an operation with
 /// numbers missing is left out, and nothing is written behind it.
 pub fn bytes_of_numbers(numbers: &Numbers) -> Vec<u8> {
-    let whole = numbers.ops.chunks_exact(NUMBERS_PER_OP);
-    let all_whole = whole.remainder().is_empty();
-    let mut table = table_with(numbers, whole.map(op_of).collect());
-    table.decider = numbers.marked().filter(|_| all_whole);
+    let mut table = table_with(numbers, numbers.whole().collect());
+    table.decider = numbers.marked().filter(|_| numbers.is_whole());
     bytes_of(&table)
 }
 

@@ -72,6 +72,11 @@ impl<'a> Shown<'a> {
     pub fn period(&self) -> u64 {
         smallest(self.wrong.all())
     }
+
+    /// Without any hold.
+    pub fn bare_period(&self) -> u64 {
+        smallest(self.wrong.bare_boards | self.wrong.values)
+    }
 }
 
 // ---- the kinds ----------------------------------------------------------
@@ -79,7 +84,7 @@ impl<'a> Shown<'a> {
 /// A kind: its name, and whether a table is of it.
 type Kind = (&'static str, fn(&Shown<'_>) -> bool);
 
-pub const KINDS: [Kind; 18] = [
+pub const KINDS: [Kind; 25] = [
     (
         "a mode that no run reaches, and an operation only there that would ask for more",
         asks_unreached,
@@ -143,7 +148,55 @@ pub const KINDS: [Kind; 18] = [
             })
         },
     ),
+    ("an operation with a hold", has_hold),
+    ("a hold in every operation", |shown| {
+        shown.table.ops.iter().all(|op| op.hold.is_some())
+    }),
+    ("holds that make the period longer", |shown| {
+        shown.bare_period() < shown.period()
+    }),
+    ("holds that leave a period above 1 as it is", |shown| {
+        has_hold(shown) && shown.bare_period() == shown.period() && shown.period() > 1
+    }),
+    (
+        "a hold that one operation asks for by itself",
+        is_asked_by_hold,
+    ),
+    (
+        "a cell that is used while the one that wrote it holds its boards after its end",
+        is_used_in_hold,
+    ),
+    (
+        "an operation that waits for the decider's end and starts in its hold",
+        |shown| {
+            any_beside(shown, |table, decider, op| {
+                let in_hold = decider.end() <= op.start && op.start < decider.held_to();
+                !table.runs_in_every_mode(op) && in_hold
+            })
+        },
+    ),
 ];
+
+fn has_hold(shown: &Shown<'_>) -> bool {
+    shown.table.ops.iter().any(|op| op.hold.is_some())
+}
+
+/// The longer period is asked for by the cycles of one operation, with its hold.
+fn is_asked_by_hold(shown: &Shown<'_>) -> bool {
+    let period = shown.period();
+    shown.bare_period() < period && smallest(shown.wrong.own_boards) == period
+}
+
+/// Some other operation reads what one wrote, in the same mode, and starts in that one's hold.
+fn is_used_in_hold(shown: &Shown<'_>) -> bool {
+    let ops = &shown.table.ops;
+    let uses = |one: &Op, other: &Op| {
+        let in_hold = one.end() <= other.start && other.start < one.held_to();
+        in_hold && one.modes & other.modes != 0 && one.writes & other.reads != 0
+    };
+    ops.iter()
+        .any(|one| ops.iter().any(|other| uses(one, other)))
+}
 
 /// With every mode a first mode, the operations that no run has make the period
 /// larger.

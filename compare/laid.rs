@@ -1,6 +1,8 @@
 //! All runs of small tables, laid out one by one, beside the library's answers and those by walks.
 
+use crate::answers;
 use crate::generate::{self, Seed};
+use crate::holds::without_holds;
 use crate::judge::{bytes_of, has, Op, Table};
 use crate::kinds::{Shown, KINDS};
 use crate::library::{self, Said};
@@ -24,10 +26,19 @@ const WORDS: [&str; 4] = [
     "the boards fit and the values arrive",
 ];
 
+/// What a table with holds gains where they are taken away: nothing, right periods, or a
+/// smaller period too.
+const GAINS: [&str; 3] = [
+    "gain nothing without their holds",
+    "gain right periods, and keep their period",
+    "get a smaller period",
+];
+
 #[derive(Default)]
 struct Found {
     words: [u64; WORDS.len()],
     kinds: [u64; KINDS.len()],
+    gains: [u64; GAINS.len()],
     differences: u64,
 }
 
@@ -59,15 +70,19 @@ impl Found {
         kinds().for_each(|(count, (name, _))| println!("{:>8} of kind {}", count, name));
         let words = || self.words.iter().zip(WORDS);
         words().for_each(|(count, name)| println!("{:>8} periods at which {}", count, name));
+        let gains = || self.gains.iter().zip(GAINS);
+        gains().for_each(|(count, name)| println!("{:>8} tables with holds {}", count, name));
         let missed = kinds().filter(|(count, _)| **count == 0);
         missed.for_each(|(_, (name, _))| println!("no table of kind {}", name));
         let missed = words().filter(|(count, _)| **count == 0);
         missed.for_each(|(_, name)| println!("no period at which {}", name));
+        let missed = gains().filter(|(count, _)| **count == 0);
+        missed.for_each(|(_, name)| println!("no tables with holds {}", name));
     }
 
     /// No answer differs, and every kind of table and of period was met.
     fn is_good(&self) -> bool {
-        let mut counts = self.kinds.iter().chain(&self.words);
+        let mut counts = self.kinds.iter().chain(&self.words).chain(&self.gains);
         self.differences == 0 && counts.all(|count| *count > 0)
     }
 }
@@ -92,8 +107,10 @@ fn changed(table: &Table, change: fn(usize, &mut Op)) -> Table {
 }
 
 /// The table; by the highest names; without cells, so that only boards decide; with a
-/// board for each operation, so that values decide, and each operation by itself; and where
-/// there is a decider, without it, which changes no period.
+/// board for each operation, so that values decide, and each operation by itself; where
+/// there is a decider, without it, which changes no period; and where there are holds, without
+/// them, so that the boards fit where no two instances overlap by their durations, and the values
+/// arrive as they did.
 fn questions(table: &Table, wrong: &Wrong) -> Vec<Question> {
     let question = |name, table, boards, values| Question {
         name,
@@ -115,6 +132,10 @@ fn questions(table: &Table, wrong: &Wrong) -> Vec<Question> {
         let mut table = table.clone();
         table.decider = None;
         all.push(question("no decider", table, wrong.boards, wrong.values));
+    }
+    if table.ops.iter().any(|op| op.hold.is_some()) {
+        let bare = without_holds(table);
+        all.push(question("no holds", bare, wrong.bare_boards, wrong.values));
     }
     all
 }
@@ -200,9 +221,68 @@ fn check_decider(table: &Table, wrong: &Wrong, found: &mut Found) {
     }
 }
 
+// ---- tables with holds --------------------------------------------------
+
+/// The table with each hold cut to half, or taken away.
+fn shorter_holds(table: &Table) -> Table {
+    let half = |hold: u64| Some(hold / 2).filter(|half| *half > 0);
+    let mut shorter = table.clone();
+    let ops = shorter.ops.iter_mut();
+    ops.for_each(|op| op.hold = op.hold.and_then(half));
+    shorter
+}
+
+/// "margins still go by the duration": the library's is that of the table without holds, as the
+/// planner has it.
+fn check_margin(seed: &mut Seed, table: &Table, found: &mut Found) {
+    let ops = table.ops.len() as u64;
+    let (i, j) = (seed.below(ops), seed.below(ops));
+    let (n, q) = (seed.between(1, 3), seed.between(1, table.len));
+    let (mut places, mut bytes) = ([0; 3], bytes_of(table));
+    let said = library::margin(&mut bytes, (i, j, n, q), &mut places);
+    let bare = answers::margin(&bytes_of(&without_holds(table)), i, j, n, q);
+    let good = said == told(0) && Ok(i64::from(places[1])) == bare;
+    found.check(good, &format!("margin of {} {} {}", i, j, n), q, table);
+}
+
+/// "In demand 3 the second table has no longer holds either": with shorter ones, the boards fit
+/// at the first two periods at which they did, and at a drawn period the values are answered as
+/// they were, by the library.
+fn check_shorter_holds(seed: &mut Seed, table: &Table, wrong: &Wrong, found: &mut Found) {
+    let mut bytes = bytes_of(&shorter_holds(table));
+    let fitted = (1..=table.len).filter(|q| !has(wrong.boards, *q));
+    for q in fitted.take(2) {
+        let fit = library::boards_fit(&mut bytes, q) == told(1);
+        found.check(fit, "shorter holds, boards", q, table);
+    }
+    let q = seed.between(1, table.len);
+    let arrive = told(u64::from(!has(wrong.values, q)));
+    let same = library::values_arrive(&mut bytes, q) == arrive;
+    found.check(same, "shorter holds, values", q, table);
+}
+
+/// Without holds no right period is lost, in all runs, and some may be gained; that the library
+/// says so is asked as one of the questions. Shorter holds, and a margin.
+fn compare_holds(seed: &mut Seed, shown: &Shown<'_>, table: &Table, found: &mut Found) {
+    if table.ops.iter().all(|op| op.hold.is_none()) {
+        return;
+    }
+    let wrong = &shown.wrong;
+    let lost = wrong.bare_boards & !wrong.boards;
+    found.check(lost == 0, "right periods lost without holds", 0, table);
+    let bare = wrong.bare_boards | wrong.values;
+    let gained = usize::from(bare != wrong.all());
+    let shorter = usize::from(shown.bare_period() < shown.period());
+    found.gains[gained + shorter] += 1;
+    check_shorter_holds(seed, table, wrong, found);
+    check_margin(seed, table, found);
+}
+
+// ---- all runs of a table ------------------------------------------------
+
 /// All runs of the length that is enough; sometimes also all shorter ones, and those
 /// that are up to two cycles longer.
-fn compare_table(table: &Table, longer: bool, found: &mut Found) {
+fn compare_table(seed: &mut Seed, table: &Table, longer: bool, found: &mut Found) {
     let enough = enough_cycles(table);
     let lengths = if longer {
         1..=enough + 2
@@ -213,6 +293,7 @@ fn compare_table(table: &Table, longer: bool, found: &mut Found) {
     found.note_kinds(&shown);
     found.note_words(table, &shown.wrong);
     check_decider(table, &shown.wrong, found);
+    compare_holds(seed, &shown, table, found);
     for question in &questions(table, &shown.wrong) {
         compare_question(question, found);
     }
@@ -280,7 +361,7 @@ pub fn laid_command(count: u64, mut seed: Seed) -> bool {
     let mut found = Found::default();
     for turn in 0..count {
         let table = generate::tiny(&mut seed);
-        compare_table(&table, turn % 16 == 0, &mut found);
+        compare_table(&mut seed, &table, turn % 16 == 0, &mut found);
         compare_long_run(&mut seed, &mut found);
     }
     found.print_kinds();

@@ -10,13 +10,14 @@ pub mod c {
         pub fn trevozhil_judge_numbers(
             p: u64, boards: u64, cells: u64, modes: u64, first: u64,
             follow: *const u64, follow_len: usize, ops: *const u64, ops_len: usize,
-            mark: u64, decider: u64, a: *mut u64, b: *mut u64,
+            holds: *const u64, holds_len: usize, mark: u64, decider: u64, a: *mut u64, b: *mut u64,
         ) -> u32;
 
         pub fn trevozhil_write(
             p: u64, boards: u64, cells: u64, modes: u64, first: u64,
             follow: *const u64, follow_len: usize, ops: *const u64, ops_len: usize,
-            mark: u64, decider: u64, out: *mut u8, out_len: usize, a: *mut u64, b: *mut u64,
+            holds: *const u64, holds_len: usize, mark: u64, decider: u64,
+            out: *mut u8, out_len: usize, a: *mut u64, b: *mut u64,
         ) -> u32;
 
         pub fn trevozhil_period(s: *const u8, s_len: usize, a: *mut u64, b: *mut u64) -> u32;
@@ -74,10 +75,11 @@ pub fn judge(bytes: &mut [u8]) -> Said {
 pub fn judge_numbers(n: &mut Numbers) -> Said {
     let (follow, follow_len) = (n.follow.as_mut_ptr(), n.follow.len());
     let (ops, ops_len) = (n.ops.as_mut_ptr(), n.ops.len());
+    let (holds, holds_len) = (n.holds.as_mut_ptr(), n.holds.len());
     said(|a, b| unsafe {
         c::trevozhil_judge_numbers(
-            n.p, n.boards, n.cells, n.modes, n.first, follow, follow_len, ops, ops_len, n.mark,
-            n.decider, a, b,
+            n.p, n.boards, n.cells, n.modes, n.first, follow, follow_len, ops, ops_len, holds,
+            holds_len, n.mark, n.decider, a, b,
         )
     })
 }
@@ -85,11 +87,12 @@ pub fn judge_numbers(n: &mut Numbers) -> Said {
 pub fn write(n: &mut Numbers, out: &mut [u8]) -> Said {
     let (follow, follow_len) = (n.follow.as_mut_ptr(), n.follow.len());
     let (ops, ops_len) = (n.ops.as_mut_ptr(), n.ops.len());
+    let (holds, holds_len) = (n.holds.as_mut_ptr(), n.holds.len());
     let (out, out_len) = (out.as_mut_ptr(), out.len());
     said(|a, b| unsafe {
         c::trevozhil_write(
-            n.p, n.boards, n.cells, n.modes, n.first, follow, follow_len, ops, ops_len, n.mark,
-            n.decider, out, out_len, a, b,
+            n.p, n.boards, n.cells, n.modes, n.first, follow, follow_len, ops, ops_len, holds,
+            holds_len, n.mark, n.decider, out, out_len, a, b,
         )
     })
 }

@@ -17,6 +17,7 @@
 //!   text                         bytes on standard input to what the program fold prints for them
 //!   ask WORD..                   words, and bytes on standard input, to what fold prints for them
 //!   plan                         a table's bytes on standard input to its reply's bytes
+//!   longest                      the bytes of a longest table: a hold in each operation, and a decider
 //!   examples FILE..              files of commented hexadecimal text: each folds as its comments say
 //!   bench FILE..                 files of bytes to what the program bench prints for them
 //!   bytewise PROGRAM ARGUMENT..  a program with the bytes on standard input, which it reads one at a time
@@ -32,6 +33,7 @@ mod examples;
 mod findings;
 mod generate;
 mod hex;
+mod holds;
 mod judge;
 mod kinds;
 mod laid;
@@ -91,6 +93,7 @@ fn command(name: &str, args: &[String]) -> bool {
         ("bytes", 0) => examples::bytes_command(),
         ("text", 0) => examples::text_command(),
         ("plan", 0) => examples::plan_command(),
+        ("longest", 0) => examples::longest_command(),
         ("examples", _) => examples::examples_command(args),
         ("bench", _) => examples::bench_command(args),
         ("bytewise", _) => bytewise::bytewise_command(args),
@@ -104,7 +107,9 @@ fn command(name: &str, args: &[String]) -> bool {
 
 fn usage() -> bool {
     println!("library | runs | stats, each with --count N --seed S");
-    println!("selftest | bytes | text | plan | ask WORD.. | examples FILE.. | bench FILE..");
+    println!(
+        "selftest | bytes | text | plan | longest | ask WORD.. | examples FILE.. | bench FILE.."
+    );
     println!("bytewise PROGRAM ARGUMENT.. | words FILE.. -- PROGRAM ARGUMENT..");
     println!("speed --count N --seed S --on TEXT --picture FILE");
     println!("stack --count N --seed S -- PROGRAM ARGUMENT..");

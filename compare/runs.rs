@@ -1,5 +1,5 @@
 //! Runs laid out one by one, as the definitions have them (document 01, "Runs and right periods"), and what is said of
-//! their deciders (document 02, No. 4).
+//! their deciders and of their holds (document 02, No. 4 and 9).
 //!
 //! For small tables. Nothing here knows of reached modes, of last writers or of walks.
 
@@ -47,7 +47,18 @@ fn end_of(table: &Table, who: Instance, q: u64) -> u64 {
     start_of(table, who, q) + table.ops[who.op].dur
 }
 
+/// Where its boards are free again: "Boards are held until start + duration + hold".
+fn free_at(table: &Table, who: Instance, q: u64) -> u64 {
+    end_of(table, who, q) + table.ops[who.op].hold.unwrap_or(0)
+}
+
 /// Both hold their boards at one moment.
+fn held_at_once(table: &Table, one: Instance, other: Instance, q: u64) -> bool {
+    start_of(table, one, q) < free_at(table, other, q)
+        && start_of(table, other, q) < free_at(table, one, q)
+}
+
+/// Both would hold them at one moment if neither had a hold.
 fn overlap_at(table: &Table, one: Instance, other: Instance, q: u64) -> bool {
     start_of(table, one, q) < end_of(table, other, q)
         && start_of(table, other, q) < end_of(table, one, q)
@@ -158,8 +169,14 @@ impl<'a> Run<'a> {
     /// cycle starts first, the same operation in two cycles included"; of those
     /// pairs that count.
     fn has_right_boards(&self, q: u64, counts: fn(Instance, Instance) -> bool) -> bool {
-        let mut pairs = self.pairs.iter();
-        pairs.all(|(one, other)| !counts(*one, *other) || !overlap_at(self.table, *one, *other, q))
+        let meet = |one, other| counts(one, other) && held_at_once(self.table, one, other, q);
+        !self.pairs.iter().any(|(one, other)| meet(*one, *other))
+    }
+
+    /// The same of every pair, with all holds taken away.
+    fn has_right_bare_boards(&self, q: u64) -> bool {
+        let meet = |one, other| overlap_at(self.table, one, other, q);
+        !self.pairs.iter().any(|(one, other)| meet(*one, *other))
     }
 
     /// "each reader's source, as the plain run has it, has ended at or before the
@@ -231,8 +248,9 @@ fn near(one: Instance, other: Instance) -> bool {
 /// and k + n, that overlap on a board, or of which the one in cycle k is the
 /// source of the reader in cycle k + n and has not ended at its start. (A source
 /// is never in a later cycle than its reader: it would end after the reader's
-/// cycle is over.) Such an instance of cycle k ends by k·q + p, and cycle k + n
-/// starts at (k + n)·q, so n·q is below p: n is at most p - 1.
+/// cycle is over.) Such an instance of cycle k ends by k·q + p, its hold included
+/// ("which may not pass p"), and cycle k + n starts at (k + n)·q, so n·q is below p:
+/// n is at most p - 1.
 ///
 /// Drop all cycles after k + n: a shorter run, with the same two instances, and
 /// the same source, since no write of a later cycle has ended at the reader's
@@ -284,6 +302,8 @@ pub struct Wrong {
     pub own_boards: u64,
     /// They are at most one cycle apart.
     pub near_boards: u64,
+    /// Two instances would hold a board without any hold.
+    pub bare_boards: u64,
     /// A reader's source has not ended.
     pub values: u64,
     /// It is at most one cycle earlier.
@@ -297,19 +317,31 @@ pub struct Wrong {
 }
 
 impl Wrong {
-    /// What a run adds.
+    /// What a run adds. Where the boards fit with every pair, they fit with some of them, and so
+    /// it is with the values; without holds they are looked at by themselves.
     pub fn note(&mut self, run: &Run<'_>) {
+        let has_hold = run.table.ops.iter().any(|op| op.hold.is_some());
         for q in 1..=run.table.len {
             let note = |set: &mut u64, right: bool| *set |= u64::from(!right) << q;
-            note(&mut self.boards, run.boards_fit(q));
-            note(&mut self.own_boards, run.has_right_boards(q, same_op));
-            note(&mut self.near_boards, run.has_right_boards(q, near));
-            note(&mut self.values, run.values_arrive(q));
-            note(&mut self.near_values, run.has_right_values(q, near));
+            if !run.boards_fit(q) {
+                note(&mut self.boards, false);
+                note(&mut self.own_boards, run.has_right_boards(q, same_op));
+                note(&mut self.near_boards, run.has_right_boards(q, near));
+            }
+            if has_hold {
+                note(&mut self.bare_boards, run.has_right_bare_boards(q));
+            }
+            if !run.values_arrive(q) {
+                note(&mut self.values, false);
+                note(&mut self.near_values, run.has_right_values(q, near));
+            }
             if run.table.decider.is_some() {
                 note(&mut self.turns, run.decides_in_turn(q));
                 note(&mut self.early, run.decides_first(q));
             }
+        }
+        if !has_hold {
+            self.bare_boards = self.boards;
         }
     }
 

@@ -2,7 +2,7 @@
 //! What the tables of `examples/` fold to stands in their comments and is checked there.
 
 use crate::answers::{boards_fit, margin, plan, start_bytes, text, unfold, values_arrive};
-use crate::answers::{DECIDER_FIELD, LONGEST_REPLY, LONGEST_STARTS, LONGEST_TABLE, LONGEST_TEXT};
+use crate::answers::{LONGEST_PLAIN, LONGEST_REPLY, LONGEST_STARTS, LONGEST_TABLE, LONGEST_TEXT};
 use crate::asking::lines_are_as_said;
 use crate::blamed;
 use crate::examples::K1;
@@ -10,7 +10,7 @@ use crate::findings::NAMES;
 use crate::generate::{self, Seed};
 use crate::hex::bytes_in;
 use crate::judge::{bytes_of, bytes_of_numbers, judge, judge_numbers, numbers_of, push_number};
-use crate::judge::{read_table, write_table, Numbers, Refusal, Table};
+use crate::judge::{read_table, write_table, Numbers, Op, Refusal, Table};
 use crate::picture::{escaped, svg, tick, Panel, Point};
 use crate::runs::{taken_from, Run};
 use crate::stack;
@@ -174,10 +174,11 @@ fn named(tally: &mut Tally) {
 }
 
 /// The example has every count at its highest, and its last operation decides its period. It
-/// names no decider; one behind it is read, and operations start before that one's end.
+/// has no holds and names no decider; one behind it is read, and operations start before that
+/// one's end.
 fn largest_example(tally: &mut Tally) {
     let bytes = from_hex(include_str!("../examples/largest.hex"));
-    tally.check("largest", bytes.len() == LONGEST_TABLE - DECIDER_FIELD);
+    tally.check("largest", bytes.len() == LONGEST_PLAIN);
     let table = judge(&bytes).expect("the example is accepted");
     let counts = (table.len, table.boards, table.cells, table.modes);
     tally.check("counts", counts == (1000, 16, 32, 32));
@@ -339,14 +340,14 @@ fn points_of_reach(tally: &mut Tally) {
     tally.refused("10", &from_hex(UNREACHED_DECIDER), (10, 0, 0));
 }
 
-/// Point 11: "01's 818 and 821 bytes become 822 and 825". Behind 818 bytes a field 05 may
-/// come; behind 822 nothing may.
+/// Point 11: "01's 818 and 821 bytes become 822 and 825", without holds. Behind 818 bytes a
+/// field 05 may come; behind 822 nothing may.
 fn points_of_length(tally: &mut Tally) {
     let longest = from_hex(include_str!("../examples/largest.hex"));
     let table = generate::longest_decided(&mut Seed::new(1));
     let decided = bytes_of(&table);
     check_written(tally, "11", &numbers_of(&table), &decided);
-    for (bytes, length) in [(&longest, 818), (&decided, LONGEST_TABLE)] {
+    for (bytes, length) in [(&longest, 818), (&decided, 822)] {
         tally.check("11", bytes.len() == length && judge(bytes).is_ok());
     }
     tally.refused("11", &joined(&longest, "04 00"), (1, 818, 0));
@@ -379,15 +380,19 @@ fn k1_numbers() -> Numbers {
         first: 1,
         follow: vec![1],
         ops,
+        holds: vec![0, 0],
         mark: 0,
         decider: 0,
     }
 }
 
-/// K1 as numbers with other operation numbers.
+/// K1 as numbers with other operation numbers, and a mark and a hold for each operation that
+/// they begin.
 fn k1_ops(ops: Vec<u64>) -> Numbers {
+    let holds = vec![0; 2 * ((ops.len() + 5) / 6)];
     Numbers {
         ops,
+        holds,
         ..k1_numbers()
     }
 }
@@ -682,17 +687,20 @@ fn points_of_marked_numbers(tally: &mut Tally) {
             tally.numbers_refused("15 few", &numbers, (1, 22, 0));
         }
         numbers.ops.clear();
+        numbers.holds.clear();
         tally.numbers_refused("15 none", &numbers, (2, 22, 0));
         numbers.ops = [&six[..], &[0]].concat();
+        numbers.holds = vec![0, 0];
         tally.numbers_refused("15 more", &numbers, (1, 43, 0));
-        numbers.ops = six.repeat(33);
+        (numbers.ops, numbers.holds) = (six.repeat(33), vec![0; 66]);
         tally.numbers_refused("15 many", &numbers, (5, 694, 0));
-        numbers.ops = six;
+        (numbers.ops, numbers.holds) = (six, vec![0, 0]);
         numbers.follow.push(1);
         tally.numbers_refused("15 words", &numbers, (3, 11, 0));
     }
     let all = Numbers {
         ops: k1_numbers().ops.repeat(32),
+        holds: k1_numbers().holds.repeat(32),
         ..k1_marked(1, 32)
     };
     tally.numbers_refused("15 beyond", &all, (4, 694, 697));
@@ -718,6 +726,378 @@ fn decider_in_runs(tally: &mut Tally) {
         let run = Run::new(&missing, &modes);
         tally.check("in each cycle", run.decides_in_turn(6) == decided);
         tally.check("waits for itself", !run.decides_first(6));
+    }
+}
+
+// ---- the hold -----------------------------------------------------------
+
+/// K1 with 20 bytes: `0001 0003`, a hold of one tick, and the sets. The operation's field has 23
+/// bytes, and a field behind it is at 45.
+const K1_HELD: &str = "0100020005 020003010001 0300080000000100000001 \
+    04 0014 0001 0003 0001 0001 00000000 00000000 00000001";
+
+fn k1_held() -> Vec<u8> {
+    from_hex(K1_HELD)
+}
+
+/// "Boards are held until start + duration + hold"; "margins still go by the duration". K1 is
+/// held for four ticks then. "An 18-byte field means hold 0."
+fn held_bench(tally: &mut Tally) {
+    let (yes, no) = (true, false);
+    let held = k1_held();
+    let boards = [no, no, no, yes, yes];
+    tally.check("hold 1", text(&held) == "period 4\nop 0 start 1 fst 0\n");
+    check_answers(tally, "hold 1", &held, &boards, &[yes; 5]);
+    for (q, left) in [(2, -1), (3, 0), (4, 1), (5, 2)] {
+        tally.check("hold 1 margin", margin(&held, 0, 0, 1, q) == Ok(left));
+    }
+    let table = judge(&held).expect("it is accepted");
+    tally.check("hold 1", table.ops[0].hold == Some(1));
+    tally.check("hold 1 written", bytes_of(&table) == held);
+    let plain = judge(&k1()).expect("K1 is accepted");
+    tally.check("no hold", plain.ops[0].hold.is_none());
+    let decided = joined(&held, "05 00 01 00");
+    tally.check("hold 1 decided", text(&decided) == text(&held));
+}
+
+/// K2 with a hold in its first, its second and its last field: the boards are held for longer,
+/// the values arrive as without it.
+fn held_values(tally: &mut Tally) {
+    let k2 = judge(&from_hex(include_str!("../examples/k02.hex"))).expect("K2 is accepted");
+    for (which, hold, first) in [(0, 1, 3), (0, 4, 6), (1, 2, 4), (1, 1, 3)] {
+        let mut table = k2.clone();
+        table.ops[which].hold = Some(hold);
+        let bytes = bytes_of(&table);
+        let boards: Vec<bool> = (1..=6).map(|q| q >= first).collect();
+        let values: Vec<bool> = (1..=6).map(|q| q >= 1).collect();
+        check_answers(tally, "K2 held", &bytes, &boards, &values);
+        tally.check("K2 period", period(&table) == first);
+    }
+    let mut table = k2;
+    table.ops[2].hold = Some(1);
+    tally.refused("K2 past p", &bytes_of(&table), (4, 64, 71));
+}
+
+/// In a 20-byte field of K1: "a 20-byte field with hold 0 is RANGE and blames the hold; so does a
+/// hold that alone runs past p". Points 9 and 17: no wrap, layout order, and sets moved by two.
+const WRONG_HELD: [Wrong; 26] = [
+    (29, "0000", 22, 29),
+    (29, "0002", 22, 29),
+    (29, "ffff", 22, 29),
+    (29, "fffc", 22, 29),
+    (29, "fffd", 22, 29),
+    (25, "0002", 22, 29),
+    (27, "0004", 22, 29),
+    (27, "0004 0000", 22, 29),
+    (3, "0004", 22, 29),
+    (25, "0000 0005 0001", 22, 29),
+    (27, "0005 0000", 22, 27),
+    (27, "0005", 22, 27),
+    (27, "0000 0000", 22, 27),
+    (27, "0000", 22, 27),
+    (27, "ffff ffff", 22, 27),
+    (25, "ffff 0001 0001", 22, 27),
+    (25, "ffff ffff ffff", 22, 27),
+    (25, "0005 0001 0000", 22, 27),
+    (31, "0000", 22, 31),
+    (31, "0002 00000001", 22, 31),
+    (33, "00000001 00000001", 22, 33),
+    (37, "00000001 00000000", 22, 37),
+    (41, "00000000", 22, 41),
+    (41, "00000003", 22, 41),
+    (29, "0000 0000 00000001 00000001 00000000", 22, 29),
+    (18, "00000000 040014 0001 0005 0000", 11, 18),
+];
+
+fn places_in_held(tally: &mut Tally) {
+    let held = k1_held();
+    check_wrong(tally, &held, &WRONG_HELD);
+    check_right(tally, &held, &[(25, "0000"), (25, "0000 0003 0002")]);
+    check_right(tally, &held, &[(25, "0000 0001 0004"), (27, "0002 0002")]);
+    let decided = joined(&held, "05 00 01 00");
+    check_wrong(tally, &decided, &[(48, "01", 45, 48), (29, "0000", 22, 29)]);
+    // at 45 a plain field behind it, at 66 another with a hold
+    let three = [&held[..], &k1()[22..], &held[22..]].concat();
+    let wrong = [
+        (25, "0005", 22, 27),
+        (50, "0000", 45, 50),
+        (52, "0000", 45, 52),
+        (62, "00000000", 45, 62),
+        (71, "0000", 66, 71),
+        (73, "0000", 66, 73),
+        (75, "0000", 66, 75),
+        (85, "00000000", 66, 85),
+    ];
+    check_wrong(tally, &three, &wrong);
+    tally.refused("three", &three, (6, 0, 1));
+    tally.refused("three", &joined(&three, "05 00 01 03"), (4, 89, 92));
+    tally.refused("three", &joined(&three, "05 00 01 02"), (6, 0, 1));
+}
+
+/// "SIZE now admits 18 and 20"; the length comes before the value, and the value before its
+/// ranges.
+fn sizes_of_ops(tally: &mut Tally) {
+    for (table, good) in [(k1(), 18), (k1_held(), 20)] {
+        for length in (0..600)
+            .chain([4608, 5120, 65535])
+            .filter(|it| ![18, 20].contains(it))
+        {
+            let digits = format!("{:04x}", length);
+            tally.refused(&digits, &changed(&table, 23, &digits), (3, 22, 0));
+            tally.refused(&digits, &changed(&table[..25], 23, &digits), (3, 22, 0));
+        }
+        for cut in 23..table.len() {
+            tally.refused("cut", &table[..cut], (1, 22, 0));
+        }
+        tally.check("whole", table.len() == 25 + good && judge(&table).is_ok());
+    }
+    // 18 bytes that are called 20, and 20 that are called 18
+    tally.refused("20", &changed(&k1(), 23, "0014"), (1, 22, 0));
+    tally.refused("18", &changed(&k1_held(), 23, "0012"), (4, 22, 31));
+    let both = joined(&changed(&k1(), 23, "0014"), "04 00 12");
+    tally.refused("20", &both, (4, 22, 31));
+    // one more or fewer than 20, in bytes that are there
+    tally.refused(
+        "21",
+        &joined(&changed(&k1_held(), 23, "0015"), "00"),
+        (3, 22, 0),
+    );
+    tally.refused("19", &changed(&k1_held(), 23, "0013")[..44], (3, 22, 0));
+    let second = joined(&k1_held(), "04 00 13");
+    tally.refused("second", &second, (3, 45, 0));
+    tally.refused("second", &joined(&k1_held(), "04 00"), (1, 45, 0));
+    tally.refused("second", &joined(&k1_held(), "04 00 14"), (1, 45, 0));
+    tally.refused("second", &joined(&k1_held(), "04 00 12"), (1, 45, 0));
+    tally.refused("second", &joined(&k1_held(), "00 00 14"), (2, 45, 0));
+}
+
+/// Of one mode, p 6 and two boards: operations by start, duration, hold (0 for none), board,
+/// reads and writes.
+fn held_table(ops: &[[u64; 6]]) -> Vec<u8> {
+    let op = |six: &[u64; 6]| Op {
+        start: six[0],
+        dur: six[1],
+        hold: Some(six[2]).filter(|hold| *hold != 0),
+        boards: six[3],
+        reads: six[4],
+        writes: six[5],
+        modes: 1,
+    };
+    bytes_of(&Table {
+        len: 6,
+        boards: 2,
+        cells: 1,
+        modes: 1,
+        first: 1,
+        follow: vec![1],
+        ops: ops.iter().map(op).collect(),
+        decider: None,
+    })
+}
+
+/// CLASH follows the hold of either operation, whichever has the lower number, also by one tick
+/// and also where both have one; what touches does not clash. "cells .. still go by the
+/// duration": an operation on another board may use the cell, and one on the same board clashes
+/// before it could race.
+fn held_pairs(tally: &mut Tally) {
+    let pairs: [([u64; 6], [u64; 6], Option<u32>); 12] = [
+        ([0, 1, 1, 1, 0, 0], [1, 1, 0, 1, 0, 0], Some(6)),
+        ([0, 1, 1, 1, 0, 0], [2, 1, 0, 1, 0, 0], None),
+        ([0, 1, 3, 1, 0, 0], [3, 1, 0, 1, 0, 0], Some(6)),
+        ([0, 1, 3, 1, 0, 0], [4, 1, 1, 1, 0, 0], None),
+        ([0, 1, 5, 1, 0, 0], [5, 1, 0, 1, 0, 0], Some(6)),
+        ([0, 1, 5, 3, 0, 0], [5, 1, 0, 2, 0, 0], Some(6)),
+        ([0, 1, 5, 1, 0, 0], [5, 1, 0, 2, 0, 0], None),
+        ([0, 1, 5, 1, 0, 1], [1, 1, 4, 2, 1, 0], None),
+        ([0, 2, 4, 1, 0, 1], [1, 1, 0, 2, 1, 0], Some(7)),
+        ([0, 2, 4, 1, 0, 1], [2, 1, 0, 1, 1, 1], Some(6)),
+        ([0, 1, 5, 1, 1, 1], [1, 1, 0, 2, 0, 1], None),
+        ([2, 1, 3, 1, 0, 0], [0, 2, 0, 1, 0, 0], None),
+    ];
+    for (one, other, refused) in pairs {
+        for ops in [[one, other], [other, one]] {
+            let (bytes, name) = (held_table(&ops), format!("{:?}", ops));
+            match refused {
+                Some(number) => tally.refused(&name, &bytes, (number, 0, 1)),
+                None => tally.check(&name, judge(&bytes).is_ok()),
+            }
+        }
+    }
+}
+
+/// "EARLY .. still go by the duration": beside a decider [1,3) that holds its board for longer,
+/// what does not run in every mode may start at 3, and not at 2.
+fn held_early(tally: &mut Tally) {
+    let mut table = judge(&from_hex(DECIDED)).expect("it is accepted");
+    for hold in 1..=3 {
+        table.ops[1].hold = Some(hold);
+        let bytes = bytes_of(&table);
+        tally.check("in its hold", judge(&bytes).is_ok());
+        tally.check("its length", bytes.len() == 116);
+        // the third operation's field is two bytes farther
+        let early = changed(&bytes, 73, "0002");
+        tally.refused("before its end", &early, (10, 1, 2));
+        let shared = changed(&bytes, 77, "0002");
+        tally.refused("on its board", &shared, (6, 1, 2));
+    }
+    table.ops[1].hold = Some(4);
+    tally.refused("past p", &bytes_of(&table), (4, 47, 54));
+    table.ops[1].hold = Some(3);
+    let run = Run::new(&table, &[0, 0, 0]);
+    for (q, fit, in_turn) in [
+        (1, false, false),
+        (2, false, true),
+        (4, false, true),
+        (5, true, true),
+    ] {
+        tally.check("turns", run.decides_in_turn(q) == in_turn);
+        tally.check("waits", run.decides_first(q));
+        tally.check("held", run.boards_fit(q) == fit && run.values_arrive(q));
+    }
+}
+
+/// "the longest table has 886 bytes, with the decider's field, and no answer depends on bytes
+/// past 889": the third header byte behind it is the last that is looked at.
+fn held_longest(tally: &mut Tally) {
+    let table = generate::longest_held(&mut Seed::new(1));
+    let decided = bytes_of(&table);
+    let longest = &decided[..882];
+    check_written(tally, "886", &numbers_of(&table), &decided);
+    tally.check("886", decided.len() == 886 && LONGEST_TABLE == 886);
+    tally.check("886", judge(&decided).is_ok() && judge(longest).is_ok());
+    for (more, refusal) in [
+        ("04", (1, 882, 0)),
+        ("04 00", (1, 882, 0)),
+        ("04 00 12", (5, 882, 0)),
+        ("04 00 14", (5, 882, 0)),
+        ("04 00 13", (5, 882, 0)),
+        ("00 00 14", (2, 882, 0)),
+        ("05 00 14", (3, 882, 0)),
+        ("05 00 01", (1, 882, 0)),
+        ("05 00 01 20", (4, 882, 885)),
+    ] {
+        tally.refused(more, &joined(longest, more), refusal);
+    }
+    for (more, refusal) in [
+        ("04", (1, 886, 0)),
+        ("04 00", (1, 886, 0)),
+        ("04 00 14", (2, 886, 0)),
+        ("05 00 01", (2, 886, 0)),
+        ("00 00 00", (2, 886, 0)),
+    ] {
+        let mut longer = joined(&decided, more);
+        tally.refused(more, &longer, refusal);
+        if longer.len() == 889 {
+            longer.resize(5000, 4);
+            tally.refused(more, &longer, refusal);
+        }
+    }
+    let many = [&k1()[..22], &k1_held()[22..].repeat(32)].concat();
+    tally.refused("32", &many, (6, 0, 1));
+    tally.refused("33", &[&many[..], &k1_held()[22..]].concat(), (5, 758, 0));
+    tally.refused("33", &[&many[..], &k1()[22..]].concat(), (5, 758, 0));
+}
+
+/// K1 as numbers with these marks and holds.
+fn k1_holds(holds: &[u64]) -> Numbers {
+    Numbers {
+        holds: holds.to_vec(),
+        ..k1_numbers()
+    }
+}
+
+/// Point 15: "A hold .. with its mark unset is not written whatever its number; hold 0 with the
+/// mark set is RANGE". Point 13: a hold too large for its field is RANGE.
+fn points_of_hold_marks(tally: &mut Tally) {
+    for hold in [0, 1, 2, 65535, 65536, 65537, u64::MAX] {
+        check_written(tally, "15", &k1_holds(&[0, hold]), &k1());
+    }
+    for mark in [1, 2, 255, 256, 1 << 16, 1 << 32, 1 << 63, u64::MAX] {
+        check_written(tally, "15", &k1_holds(&[mark, 1]), &k1_held());
+        for hold in [
+            0,
+            2,
+            65532,
+            65535,
+            65536,
+            65537,
+            1 << 32,
+            (1 << 32) + 1,
+            u64::MAX,
+        ] {
+            let mut numbers = k1_holds(&[mark, hold]);
+            tally.numbers_refused("15", &numbers, (4, 22, 29));
+            numbers.ops[2] = 0;
+            tally.numbers_refused("15 before boards", &numbers, (4, 22, 29));
+            numbers.ops[1] = 5;
+            tally.numbers_refused("15 behind duration", &numbers, (4, 22, 27));
+            numbers.ops[1] = u64::MAX;
+            tally.numbers_refused("15 behind duration", &numbers, (4, 22, 27));
+            numbers.ops[0] = u64::MAX;
+            tally.numbers_refused("15 behind start", &numbers, (4, 22, 25));
+        }
+        for (place, b) in [(2, 31), (3, 33), (4, 37), (5, 41)] {
+            let mut numbers = k1_holds(&[mark, 1]);
+            numbers.ops[place] += 1 << 32;
+            tally.numbers_refused("15 sets", &numbers, (4, 22, b));
+        }
+        let numbers = k1_holds(&[mark, 1]);
+        let decided = Numbers {
+            mark: 1,
+            ..numbers.clone()
+        };
+        check_written(tally, "15", &decided, &joined(&k1_held(), "05 00 01 00"));
+        let decider = 1;
+        let beyond = Numbers { decider, ..decided };
+        tally.numbers_refused("15 decider", &beyond, (4, 45, 48));
+    }
+}
+
+/// Of a mark or a hold missing, or more of them: SHORT at that operation's place, before its
+/// ranges; a 33rd is MANY before that. The place goes by the lengths of the fields before it.
+fn points_of_hold_counts(tally: &mut Tally) {
+    for holds in [&[][..], &[0], &[1], &[u64::MAX]] {
+        let mut numbers = k1_holds(holds);
+        tally.numbers_refused("12 few", &numbers, (1, 22, 0));
+        numbers.ops = vec![70000, 0, 0, 0, 0, 0];
+        tally.numbers_refused("12 before RANGE", &numbers, (1, 22, 0));
+        numbers.follow.push(1);
+        tally.numbers_refused("12 behind SIZE", &numbers, (3, 11, 0));
+    }
+    for more in [&[0][..], &[1], &[0, 0], &[1, 1], &[1, 1, 1, 1]] {
+        let holds = |two: [u64; 2]| [&two[..], more].concat();
+        tally.numbers_refused("12 more", &k1_holds(&holds([0, 0])), (1, 43, 0));
+        tally.numbers_refused("12 more", &k1_holds(&holds([1, 1])), (1, 45, 0));
+        tally.numbers_refused("12 behind RANGE", &k1_holds(&holds([1, 0])), (4, 22, 29));
+        let mut numbers = k1_holds(more);
+        numbers.ops.clear();
+        tally.numbers_refused("12 alone", &numbers, (1, 22, 0));
+        numbers.ops = k1_numbers().ops.repeat(32);
+        for (mark, at) in [(0, 694), (1, 758)] {
+            numbers.holds = [&[mark, 1].repeat(32)[..], more].concat();
+            tally.numbers_refused("12 many", &numbers, (5, at, 0));
+        }
+    }
+    for (ops, holds, refusal) in [
+        (0, 0, (2, 22, 0)),
+        (12, 2, (1, 45, 0)),
+        (12, 3, (1, 45, 0)),
+        (12, 4, (6, 0, 1)),
+        (13, 4, (1, 68, 0)),
+        (12, 5, (1, 68, 0)),
+        (7, 4, (1, 45, 0)),
+        (7, 2, (1, 45, 0)),
+        (32 * 6, 63, (1, 22 + 31 * 23, 0)),
+        (32 * 6, 64, (6, 0, 1)),
+        (33 * 6, 64, (5, 758, 0)),
+        (33 * 6, 66, (5, 758, 0)),
+        (33 * 6, 65, (5, 758, 0)),
+    ] {
+        let mut numbers = k1_holds(&[1, 1].repeat(34));
+        numbers.ops = numbers.ops.repeat(34);
+        numbers.ops.truncate(ops);
+        numbers.holds.truncate(holds);
+        tally.numbers_refused(&format!("12 {} {}", ops, holds), &numbers, refusal);
     }
 }
 
@@ -870,7 +1250,8 @@ fn places_in_reply(tally: &mut Tally) {
 }
 
 /// Numbers handed over: K1's with others at some places in layout order, and the field and the
-/// number in which they are wrong. A start that is too large for its field is blamed itself.
+/// number in which they are wrong. A start that is too large for its field is blamed itself. The
+/// hold at place 8 is not marked.
 const WRONG_NUMBERS: [(&[(usize, u64)], u64, u64); 18] = [
     (&[(0, 0)], 0, 3),
     (&[(0, 65541), (1, 257), (6, 65537)], 0, 3),
@@ -881,15 +1262,15 @@ const WRONG_NUMBERS: [(&[(usize, u64)], u64, u64); 18] = [
     (&[(5, 0x1_0000_0001), (6, 65537)], 11, 18),
     (&[(6, 65537)], 22, 25),
     (&[(6, 65536), (7, 0)], 22, 25),
-    (&[(6, u64::MAX), (7, u64::MAX), (8, 0)], 22, 25),
-    (&[(6, 65535), (8, 0)], 22, 27),
+    (&[(6, u64::MAX), (7, u64::MAX), (9, 0)], 22, 25),
+    (&[(6, 65535), (9, 0)], 22, 27),
     (&[(6, 5), (7, 1)], 22, 27),
-    (&[(7, 65539), (11, 0)], 22, 27),
+    (&[(7, 65539), (12, 0)], 22, 27),
     (&[(7, u64::MAX)], 22, 27),
-    (&[(8, 65537), (9, 0x1_0000_0000)], 22, 29),
-    (&[(9, 0x1_0000_0000), (10, 0x1_0000_0000)], 22, 31),
-    (&[(10, 0x1_0000_0000), (11, 2)], 22, 35),
-    (&[(11, 0x1_0000_0001)], 22, 39),
+    (&[(8, u64::MAX), (9, 65537), (10, 0x1_0000_0000)], 22, 29),
+    (&[(10, 0x1_0000_0000), (11, 0x1_0000_0000)], 22, 31),
+    (&[(11, 0x1_0000_0000), (12, 2)], 22, 35),
+    (&[(12, 0x1_0000_0001)], 22, 39),
 ];
 
 fn places_of_numbers(tally: &mut Tally) {
@@ -1049,49 +1430,71 @@ fn round_trips(tally: &mut Tally, seed: &mut Seed) {
     tally.check("without its decider", text(&undecided) == text(&bytes));
 }
 
+/// The bytes of numbers, each in as many as it has in the layout; none where one is too large.
+fn laid_out(numbers: &[(u64, u32)]) -> Option<Vec<u8>> {
+    let mut out = Vec::new();
+    for (number, bytes) in numbers {
+        if number >> (8 * bytes) != 0 {
+            return None;
+        }
+        push_number(&mut out, *number, *bytes);
+    }
+    Some(out)
+}
+
+/// A field 04 of six numbers, a mark and a hold. With some of them missing it stops before the
+/// end of its value.
+fn op_laid_out(six: &[u64], two: &[u64]) -> Option<Vec<u8>> {
+    if six.len() < 6 || two.len() < 2 {
+        return Some(vec![0x04, 0, 18]);
+    }
+    let is_held = two[0] != 0;
+    let hold = if is_held { (two[1], 2) } else { (0, 0) };
+    let length = if is_held { 20 } else { 18 };
+    laid_out(&[
+        (0x04, 1),
+        (length, 2),
+        (six[0], 2),
+        (six[1], 2),
+        hold,
+        (six[2], 2),
+        (six[3], 4),
+        (six[4], 4),
+        (six[5], 4),
+    ])
+}
+
+/// All fields 04, up to one with numbers missing; whether there was none of these.
+fn ops_laid_out(numbers: &Numbers) -> Option<(Vec<u8>, bool)> {
+    let (mut ops, mut holds) = (&numbers.ops[..], &numbers.holds[..]);
+    let mut out = Vec::new();
+    while !ops.is_empty() || !holds.is_empty() {
+        let (six, two) = (&ops[..ops.len().min(6)], &holds[..holds.len().min(2)]);
+        out.extend(op_laid_out(six, two)?);
+        if six.len() < 6 || two.len() < 2 {
+            return Some((out, false));
+        }
+        (ops, holds) = (&ops[6..], &holds[2..]);
+    }
+    Some((out, true))
+}
+
 /// The layout of numbers that fit their fields, written without judging them; an
-/// operation with numbers missing stops where they do, and so does the table.
+/// operation with numbers missing stops before its end, and so does the table.
 fn written(numbers: &Numbers) -> Option<Vec<u8>> {
     let words = [&[numbers.first][..], &numbers.follow[..]].concat();
-    let widths = [2, 2, 2, 4, 4, 4];
-    let ops_fit = numbers
-        .ops
-        .iter()
-        .enumerate()
-        .all(|(i, n)| n >> (8 * widths[i % 6]) == 0);
-    let counts = [numbers.boards, numbers.cells, numbers.modes];
-    let head_fits = numbers.p >> 16 == 0 && counts.iter().all(|n| n >> 8 == 0);
-    let has_decider = numbers.mark != 0 && numbers.ops.len() % 6 == 0;
-    let decider_fits = !has_decider || numbers.decider >> 8 == 0;
-    if !ops_fit || !head_fits || !decider_fits || words.len() > 16000 {
+    if words.len() > 16000 {
         return None;
     }
-    if words.iter().any(|n| n >> 32 != 0) {
-        return None;
-    }
-    let mut out = vec![0x01, 0, 2];
-    push_number(&mut out, numbers.p, 2);
-    out.extend_from_slice(&[
-        0x02,
-        0,
-        3,
-        counts[0] as u8,
-        counts[1] as u8,
-        counts[2] as u8,
-        0x03,
-    ]);
-    push_number(&mut out, 4 * words.len() as u64, 2);
-    words
-        .iter()
-        .for_each(|word| push_number(&mut out, *word, 4));
-    for six in numbers.ops.chunks(6) {
-        out.extend_from_slice(&[0x04, 0, 18]);
-        six.iter()
-            .zip(widths)
-            .for_each(|(number, width)| push_number(&mut out, *number, width));
-    }
-    if has_decider {
-        out.extend_from_slice(&[0x05, 0, 1, numbers.decider as u8]);
+    let mut head = vec![(0x01, 1), (2, 2), (numbers.p, 2), (0x02, 1), (3, 2)];
+    head.extend([numbers.boards, numbers.cells, numbers.modes].map(|count| (count, 1)));
+    head.extend([(0x03, 1), (4 * words.len() as u64, 2)]);
+    head.extend(words.iter().map(|word| (*word, 4)));
+    let mut out = laid_out(&head)?;
+    let (ops, all) = ops_laid_out(numbers)?;
+    out.extend(ops);
+    if numbers.mark != 0 && all {
+        out.extend(laid_out(&[(0x05, 1), (1, 2), (numbers.decider, 1)])?);
     }
     Some(out)
 }
@@ -1101,7 +1504,7 @@ fn as_if_written(tally: &mut Tally, seed: &mut Seed) {
     let numbers = generate::numbers(seed);
     if let Some(bytes) = written(&numbers) {
         tally.check("as if written", judge_numbers(&numbers) == judge(&bytes));
-        let (whole, all) = (bytes_of_numbers(&numbers), numbers.ops.len() % 6 == 0);
+        let (whole, all) = (bytes_of_numbers(&numbers), numbers.is_whole());
         tally.check("whole fields", bytes.starts_with(&whole));
         tally.check("whole table", (bytes == whole) == all);
     }
@@ -1119,6 +1522,17 @@ fn in_layout_order(tally: &mut Tally, seed: &mut Seed) {
         let places: Vec<(u64, u64)> = wrong.iter().map(|it| (it.a, it.b)).collect();
         let in_order = places.windows(2).all(|two| two[0] < two[1]);
         tally.check("in layout order", in_order);
+    }
+}
+
+/// "no answer depends on bytes past 889": a table with more bytes is answered as it is when cut
+/// there.
+fn no_more_bytes(tally: &mut Tally, seed: &mut Seed) {
+    let mut bytes = generate::counted(seed);
+    bytes.extend(generate::noise(seed));
+    bytes.extend(generate::counted(seed));
+    if bytes.len() > 889 {
+        tally.check("past 889", judge(&bytes) == judge(&bytes[..889]));
     }
 }
 
@@ -1141,6 +1555,7 @@ fn check_counts(tally: &mut Tally, name: &str, table: &Table, counts: [u64; 5]) 
     let ops = table.ops.len() as u64;
     let has = [table.len, table.boards, table.cells, table.modes, ops];
     tally.check(name, has == counts);
+    tally.check(name, table.ops.iter().all(|op| op.hold.is_none()));
     tally.check(name, judge(&bytes_of(table)).as_ref() == Ok(table));
 }
 
@@ -1292,7 +1707,7 @@ fn little_stack(tally: &mut Tally) {
 }
 
 /// The checks that draw nothing.
-const FIXED: [fn(&mut Tally); 32] = [
+const FIXED: [fn(&mut Tally); 41] = [
     hexadecimal,
     bench_k1,
     bench_answers,
@@ -1314,6 +1729,15 @@ const FIXED: [fn(&mut Tally); 32] = [
     points_of_marks,
     points_of_marked_numbers,
     decider_in_runs,
+    held_bench,
+    held_values,
+    places_in_held,
+    sizes_of_ops,
+    held_pairs,
+    held_early,
+    held_longest,
+    points_of_hold_marks,
+    points_of_hold_counts,
     places_in_head,
     places_in_op,
     places_in_reply,
@@ -1334,6 +1758,7 @@ fn drawn(tally: &mut Tally, seed: &mut Seed) {
         as_if_written(tally, seed);
         in_layout_order(tally, seed);
         keeps_bytes(tally, seed);
+        no_more_bytes(tally, seed);
     }
     for _ in 0..50 {
         within_sizes(tally, seed);

@@ -43,12 +43,17 @@ fn writing(table: &Table, cell: u64, test: impl Fn(&Op) -> bool) -> u64 {
         .fold(0, |all, op| all | op.modes)
 }
 
+/// How many ticks an operation has its boards.
+fn ticks(op: &Op) -> u64 {
+    op.dur + op.hold.unwrap_or(0)
+}
+
 /// Operation u, n cycles later, wants a board while o holds it.
 fn board_held(table: &Table, from: u64, o: &Op, u: &Op, n: u64, q: u64) -> bool {
     let start = u.start + n * q;
     o.boards & u.boards != 0
-        && o.start < start + u.dur
-        && start < o.start + o.dur
+        && o.start < start + ticks(u)
+        && start < o.start + ticks(o)
         && after(table, from & o.modes, n, 0) & u.modes != 0
 }
 

@@ -342,6 +342,7 @@ fn short_op(start: u64, board: u64, reads: u64, writes: u64, upper: bool) -> Op 
     Op {
         start,
         dur: 1,
+        hold: None,
         boards: 1 << board,
         reads,
         writes,
@@ -361,6 +362,7 @@ pub fn hard_table() -> Table {
     ops.push(Op {
         start: 999,
         dur: 1,
+        hold: None,
         boards: 1 << 15,
         reads: 0,
         writes: 1 << 31,
@@ -369,6 +371,7 @@ pub fn hard_table() -> Table {
     ops.push(Op {
         start: 0,
         dur: 1,
+        hold: None,
         boards: 1 << 15,
         reads: 1 << 31,
         writes: 0,

@@ -7,7 +7,7 @@
 //!
 //! BYTES is what lies below the caller's stack pointer when it calls: the return address, and all that the function and
 //! those below it use, down to the lowest byte that they touch, in steps of 16. Arguments that do not fit into registers
-//! (3 of margin, 7 of judge_numbers, 9 of write, 8 bytes each) lie above, in the caller's frame, and are not counted. An
+//! (3 of margin, 9 of judge_numbers, 11 of write, 8 bytes each) lie above, in the caller's frame, and are not counted. An
 //! emulator has its own stack: the library's code runs on the thread's, as on the machine.
 //!
 //! To add a function: its name in NAMES, and how it is called in `with_room`, `address_of` and `arguments`.
@@ -228,14 +228,15 @@ fn arguments(name: &str, asked: &Asked, out: [usize; 2]) -> Vec<usize> {
     let counts = [n.p, n.boards, n.cells, n.modes, n.first].map(|number| number as usize);
     let follow = [n.follow.as_ptr() as usize, n.follow.len()];
     let ops = [n.ops.as_ptr() as usize, n.ops.len()];
+    let holds = [n.holds.as_ptr() as usize, n.holds.len()];
     let decider = [n.mark, n.decider].map(|number| number as usize);
     let margin = MARGIN.map(|number| number as usize);
     match name {
         "plan" | "fold" | "unfold" => [table, out].concat(),
         "boards_fit" | "values_arrive" => [&table[..], &[q]].concat(),
         "margin" => [&table[..], &margin, &[q], &out[..1]].concat(),
-        "judge_numbers" => [&counts[..], &follow, &ops, &decider].concat(),
-        "write" => [&counts[..], &follow, &ops, &decider, &out].concat(),
+        "judge_numbers" => [&counts[..], &follow, &ops, &holds, &decider].concat(),
+        "write" => [&counts[..], &follow, &ops, &holds, &decider, &out].concat(),
         "period" | "judge" | "known" => table.to_vec(),
         _ => unreachable!("{}", name),
     }
@@ -262,6 +263,7 @@ fn near_table() -> Table {
     let step = |at| Op {
         start: at,
         dur: 1,
+        hold: None,
         boards: 1 << at,
         reads: 0,
         writes: 0,
@@ -280,14 +282,19 @@ fn near_table() -> Table {
 }
 
 /// Drawn largest tables, every second one with a decider, the one in which every period below p is wrong, and the one
-/// with the smallest period.
+/// with the smallest period; and half as many longest ones, in which each operation has a hold.
 fn tables(count: u64, mut seed: Seed) -> Vec<Table> {
+    let mut held = seed.clone();
     let drawn = |turn| match (turn % 2, generate::largest(&mut seed)) {
         (0, table) => table,
         (_, table) => generate::decided(&mut seed, table),
     };
     let drawn = (0..count).map(drawn);
-    drawn.chain([hard_table(), near_table()]).collect()
+    let held = (0..(count + 1) / 2).map(|_| generate::longest_held(&mut held));
+    drawn
+        .chain([hard_table(), near_table()])
+        .chain(held)
+        .collect()
 }
 
 /// The answers on a thread with so many bytes of stack for each call.

@@ -29,9 +29,9 @@ fn members(table: &Table, set: u64) -> impl Iterator<Item = u64> {
 }
 
 /// Operation i of one cycle and operation j of a cycle that starts `later` ticks
-/// after it overlap.
-fn overlap_later(i: &Op, j: &Op, later: u64) -> bool {
-    i.start < j.end() + later && j.start + later < i.end()
+/// after it hold their boards together.
+fn held_together_later(i: &Op, j: &Op, later: u64) -> bool {
+    i.start < j.held_to() + later && j.start + later < i.held_to()
 }
 
 /// Some running instance of a cycle of mode `mode`, and some other of a cycle n
@@ -42,7 +42,7 @@ fn boards_meet(table: &Table, mode: u64, set: u64, n: u64, q: u64) -> bool {
         for (j, other) in table.ops.iter().enumerate() {
             let different = n > 0 || i != j;
             let share = one.boards & other.boards != 0 && other.modes & set != 0;
-            if different && share && overlap_later(one, other, n * q) {
+            if different && share && held_together_later(one, other, n * q) {
                 return true;
             }
         }
@@ -52,7 +52,7 @@ fn boards_meet(table: &Table, mode: u64, set: u64, n: u64, q: u64) -> bool {
 
 /// No instance of a cycle of this mode overlaps another of the same cycle or a
 /// later one. Only n with n·q below p is looked at: from then on the later cycle
-/// starts when all operations of this one have ended.
+/// starts when no board is held by this one any more.
 fn right_boards_from(table: &Table, mode: u64, q: u64) -> bool {
     let mut set = 1 << mode;
     let mut n = 0;

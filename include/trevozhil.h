@@ -12,7 +12,8 @@
  *   3    SIZE   a length that is not the tag's length                    the field's offset, 0
  *   4    RANGE  a number or set outside its range                        the field's offset, the wrong number's offset
  *   5    MANY   a 33rd operation                                         its offset, 0
- *   6    CLASH  two operations share a board and a mode and overlap      the lower and the higher operation number
+ *   6    CLASH  two operations share a board and a mode, and hold it at  the lower and the higher operation number
+ *               once
  *   7    RACE   two operations share a mode and overlap, and one writes  the lower and the higher operation number
  *               a cell that the other reads or writes
  *   8    ROOM   the output buffer is too short                           the bytes needed, 0
@@ -22,17 +23,24 @@
  *               not run in every mode
  *
  * Of RANGE, *b is the offset of the first byte of the first wrong number, in the order of the layout. An operation
- * that ends after the table, or lasts 0 ticks, blames its duration; a row of a reply that unfolds to a start above 999
- * blames its start index. The offsets, by the tag of the field that is at *a:
+ * that ends after the table, or lasts 0 ticks, blames its duration; one that ends in time and would hold its boards past
+ * the table's end, or whose field has room for a hold and has 0 there, blames its hold; a row of a reply that unfolds to
+ * a start above 999 blames its start index. The offsets, by the tag of the field that is at *a:
  *
  *   tag, hexadecimal   its numbers
  *   01                 3 length
  *   02                 8 boards, 9 cells, 10 modes
  *   03                 14 first modes, 18 + 4 * m followers of mode m
- *   04                 *a + 3 start, *a + 5 duration, *a + 7 boards, *a + 9 reads, *a + 13 writes, *a + 17 modes
+ *   04, length 18      *a + 3 start, *a + 5 duration, *a + 7 boards, *a + 9 reads, *a + 13 writes, *a + 17 modes
+ *   04, length 20      *a + 3 start, *a + 5 duration, *a + 7 hold, *a + 9 boards, *a + 11 reads, *a + 15 writes,
+ *                      *a + 19 modes
  *   05                 *a + 3 decider
  *   11 (a reply)       3 period
  *   12 (a reply)       *a + 3 folded start, *a + 5 start index
+ *
+ * An operation holds its boards from its start until start + duration + hold, and uses its cells until start + duration:
+ * a hold is how long its boards settle. Its field has 18 bytes, which means hold 0, or 20, with the hold behind the
+ * duration; a table may have both. Races, values, EARLY and margins go by the duration.
  *
  * Where the function returns 0, *a is the number of bytes that it wrote, or what was asked for, or 0 where neither is
  * said below, and *b is 0.
@@ -63,8 +71,11 @@ extern "C" {
 #define TREVOZHIL_ASK 9
 #define TREVOZHIL_EARLY 10
 
-/* The longest table has this many bytes, 4 of them its decider's field. No answer depends on more than 3 behind it. */
-#define TREVOZHIL_LONGEST_TABLE 822
+/*
+ * The longest table has this many bytes: each operation has a hold, and the last 4 bytes are the decider's field. No
+ * answer depends on more than 3 behind it.
+ */
+#define TREVOZHIL_LONGEST_TABLE 886
 
 /* The longest reply has this many bytes; a reply has 5 and 7 for each operation. */
 #define TREVOZHIL_LONGEST_REPLY 229
@@ -93,26 +104,31 @@ uint32_t trevozhil_judge(const uint8_t *s, size_t s_len, uint64_t *a, uint64_t *
  * Judges a table that is handed over as numbers, as if it was first written as bytes and then read: p is its length in
  * ticks; then the counts of boards, cells and modes; first, the set of first modes; follow, for each mode the set of
  * modes that may follow; ops, six numbers for each operation: start, duration, boards, reads, writes, modes. Bit m of a
- * set says whether m is a member. mark says whether there is a decider: with mark 0 there is none, and the number decider
- * is ignored; with any other mark, decider is the number of the operation that decides the mode, counted from 0.
+ * set says whether m is a member. holds has two numbers for each operation, a mark and its hold: with mark 0 it has none,
+ * its field has 18 bytes, and the number is ignored; with any other mark its field has 20 bytes, and hold 0 is RANGE.
+ * mark says whether there is a decider: with mark 0 there is none, and the number decider is ignored; with any other
+ * mark, decider is the number of the operation that decides the mode, counted from 0.
  * Answers 0 where the table is accepted, or a refusal from 1 to 7, or EARLY. A count of follower words that is not the
  * count of modes is SIZE, a number that is too large for its field RANGE, and an operation with numbers missing SHORT,
- * whatever the mark; each offset is the one that the field, or the number, would have in the bytes. Here a start can be
- * blamed, too: one above 65535. Writes nothing but *a and *b.
+ * whatever the mark: one of the six, its mark or its hold, or one that has only these; each offset is the one that the
+ * field, or the number, would have in the bytes. Here a start can be blamed, too: one above 65535. Writes nothing but *a
+ * and *b.
  */
 uint32_t trevozhil_judge_numbers(uint64_t p, uint64_t boards, uint64_t cells, uint64_t modes, uint64_t first,
                                  const uint64_t *follow, size_t follow_len, const uint64_t *ops, size_t ops_len,
-                                 uint64_t mark, uint64_t decider, uint64_t *a, uint64_t *b);
+                                 const uint64_t *holds, size_t holds_len, uint64_t mark, uint64_t decider, uint64_t *a,
+                                 uint64_t *b);
 
 /*
- * Writes the bytes of a table that is handed over as numbers, as above, to out, which has room for out_len bytes. The
- * decider's field is written exactly where mark is not 0.
+ * Writes the bytes of a table that is handed over as numbers, as above, to out, which has room for out_len bytes. An
+ * operation's hold is written exactly where its mark is not 0, and the decider's field where mark is not 0.
  * Answers 0 where they are written, or a refusal from 1 to 8, or EARLY; ROOM comes last. Where it answers 0 the first
  * *a bytes of out are the table's, and the others are as they were. Where it refuses, every byte of out is as it was.
  */
 uint32_t trevozhil_write(uint64_t p, uint64_t boards, uint64_t cells, uint64_t modes, uint64_t first,
-                         const uint64_t *follow, size_t follow_len, const uint64_t *ops, size_t ops_len, uint64_t mark,
-                         uint64_t decider, uint8_t *out, size_t out_len, uint64_t *a, uint64_t *b);
+                         const uint64_t *follow, size_t follow_len, const uint64_t *ops, size_t ops_len,
+                         const uint64_t *holds, size_t holds_len, uint64_t mark, uint64_t decider, uint8_t *out,
+                         size_t out_len, uint64_t *a, uint64_t *b);
 
 /*
  * The period of a table: the smallest at which the next cycle may start, for every run of modes.

@@ -30,12 +30,13 @@ static unsigned start_of_row(size_t i) {
 
 /*
  * Whether so many bytes of starts, and the rows, are those of an accepted table of so many bytes. Its operations come
- * after the field of the turns, which is at 11; each has 21 bytes, of which the start is the first number. The 4 bytes of a
- * decider's field may come behind them.
+ * after the field of the turns, which is at 11; each is a field with the tag 4, whose first number is the start, and is 3
+ * bytes longer than its length says. The decider's field may come behind them.
  */
 static int came_back(uint64_t starts_length, size_t table_length) {
     size_t i = 0;
-    for (size_t at = 11 + 3 + number_at(table + 12); at + 21 <= table_length; at += 21) {
+    size_t first = 11 + 3 + number_at(table + 12);
+    for (size_t at = first; at < table_length && table[at] == 4; at += 3 + number_at(table + at + 1)) {
         if (memcmp(starts + 2 * i, table + at + 3, 2) != 0 || start_of_row(i) != number_at(table + at + 3)) {
             return 0;
         }

@@ -54,14 +54,16 @@ fn starts_of_rows(reply: &[u8]) -> Vec<u8> {
 }
 
 /// The starts of an accepted table. Its operations come after the field of the turns, which is at
-/// 11; each has 21 bytes, of which the start is the first number. The 4 bytes of a decider's field
-/// may come behind them.
+/// 11; each is a field with the tag 4, whose first number is the start, and is 3 bytes longer than
+/// its length says. The decider's field may come behind them.
 fn starts_in(table: &[u8]) -> Vec<u8> {
-    let operations = &table[11 + 3 + number_at(table, 12) as usize..];
-    operations
-        .chunks_exact(21)
-        .flat_map(|operation| operation[3..5].to_vec())
-        .collect()
+    let mut starts = Vec::new();
+    let mut at = 11 + 3 + number_at(table, 12) as usize;
+    while table.get(at) == Some(&4) {
+        starts.extend_from_slice(&table[at + 3..at + 5]);
+        at += 3 + number_at(table, at + 1) as usize;
+    }
+    starts
 }
 
 fn fold(table: &[u8]) -> std::io::Result<()> {

@@ -22,7 +22,7 @@ fn ask_reader(modes: u32, fresh: u32, end: u32, start: u32, n: u32, bound: u32) 
 
 // The bound, raised by every reader of a value that has come to the modes `modes` after n + 1 turns.
 pub fn ask_readers(
-    cols: &[u32; 192],
+    cols: &[u32; 224],
     readers: u32,
     fresh: &[u32; 32],
     modes: u32,

@@ -79,11 +79,21 @@ fn deciders() {
     one(b"analyzer-decides-early");
 }
 
+// tables with a hold
+fn holds() {
+    one(b"k01-hold");
+    one(b"probe");
+    one(b"probe-polarised");
+    one(b"probe-too-soon");
+    one(b"notch-polarised");
+}
+
 // tables with a number or set out of its range
 fn slips() {
     one(b"slip-board");
     one(b"slip-followers");
     one(b"slip-two");
+    one(b"slip-hold");
 }
 
 fn station() {
@@ -127,6 +137,7 @@ fn main() {
     papers();
     analyzers();
     deciders();
+    holds();
     slips();
     station();
     k1_into_few();

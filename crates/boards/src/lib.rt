@@ -12,7 +12,7 @@ ghost use Rattle.boards.specs.Boards.{EndsBy, Sized, Swept, FirstRight};
 fn sweep_distance(
     wrong: &mut [u8; 1000],
     later: &mut [u32; 32],
-    cols: &[u32; 192],
+    cols: &[u32; 224],
     row: &[u32; 32],
     reached: u32,
     len: u32,
@@ -33,7 +33,7 @@ fn sweep_distance(
 fn sweep_block(
     wrong: &mut [u8; 1000],
     later: &mut [u32; 32],
-    cols: &[u32; 192],
+    cols: &[u32; 224],
     rows: [[u32; 32]; 16],
     reached: u32,
     len: u32,
@@ -66,7 +66,7 @@ fn sweep_block(
 fn sweep_rest(
     wrong: &mut [u8; 1000],
     later: &mut [u32; 32],
-    cols: &[u32; 192],
+    cols: &[u32; 224],
     follow: &[u32; 32],
     reached: u32,
     len: u32,
@@ -96,7 +96,7 @@ fn sweep_rest(
 
 // The first period from `bound` on at which the boards are right, for runs through the modes `reached`. The row of one turn is the followers
 // themselves, so that a block of rows is made only where a second distance counts.
-pub fn first_right(follow: &[u32; 32], cols: &[u32; 192], len: u32, reached: u32, bound: u32) -> u32
+pub fn first_right(follow: &[u32; 32], cols: &[u32; 224], len: u32, reached: u32, bound: u32) -> u32
     requires { ⌜ (length (now follow) ≡ 32) × Short (now cols) × EndsBy (now cols) len × (len ≤ 1000) × (1 ≤ bound) × (bound ≤ len) ⌝ }
     ensures { λ r. ⌜ FirstRight (now (follow .entry)) (now (cols .entry)) reached len bound r ⌝ }
 {

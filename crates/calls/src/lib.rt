@@ -22,14 +22,26 @@ pub fn judge_numbers(
     first: u64,
     follow: &[u64],
     ops: &[u64],
+    holds: &[u64],
     mark: u64,
     decider: u64,
     a: &mut u64,
     b: &mut u64,
 ) -> u32
-    ensures { λ r. ⌜ NumbersTell (numbers p boards cells modes first (now (follow .entry)) (now (ops .entry)) mark decider) (figuresOf r (now (a .exit)) (now (b .exit))) ⌝ }
+    ensures { λ r. ⌜ NumbersTell (numbers p boards cells modes first (now (follow .entry)) (now (ops .entry)) (now (holds .entry)) mark decider) (figuresOf r (now (a .exit)) (now (b .exit))) ⌝ }
 {
-    let judged = handed::judge(p, boards, cells, modes, first, follow, ops, mark, decider);
+    let judged = handed::judge(
+        p,
+        boards,
+        cells,
+        modes,
+        first,
+        follow,
+        ops,
+        holds,
+        mark,
+        decider,
+    );
     let outcome = judged.verdict;
     telling::tell(telling::verdict_told(outcome), a, b)
 }
@@ -43,13 +55,14 @@ pub fn write(
     first: u64,
     follow: &[u64],
     ops: &[u64],
+    holds: &[u64],
     mark: u64,
     decider: u64,
     out: &mut [u8],
     a: &mut u64,
     b: &mut u64,
 ) -> u32
-    ensures { λ r. ⌜ WriteEnds (numbers p boards cells modes first (now (follow .entry)) (now (ops .entry)) mark decider) (now (out .entry)) (ended (figuresOf r (now (a .exit)) (now (b .exit))) (now (out .exit))) ⌝ }
+    ensures { λ r. ⌜ WriteEnds (numbers p boards cells modes first (now (follow .entry)) (now (ops .entry)) (now (holds .entry)) mark decider) (now (out .entry)) (ended (figuresOf r (now (a .exit)) (now (b .exit))) (now (out .exit))) ⌝ }
 {
     let table = planner::write_table(
         p,
@@ -59,6 +72,7 @@ pub fn write(
         first,
         follow,
         ops,
+        holds,
         mark,
         decider,
         out,

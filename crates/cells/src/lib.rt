@@ -23,7 +23,7 @@ fn add_user(users: &mut [u32; 32], k: u32, cells: u32)
 }
 
 // For each cell the operations that have it in the column from `at` on: 96 for those that read it, 128 for those that write it.
-pub fn turned(cols: &[u32; 192], at: usize) -> [u32; 32]
+pub fn turned(cols: &[u32; 224], at: usize) -> [u32; 32]
     requires { ⌜ at ≤ 160 ⌝ }
     ensures { λ r. ⌜ Turned (now (cols .entry)) at r ⌝ }
 {
@@ -39,7 +39,7 @@ pub fn turned(cols: &[u32; 192], at: usize) -> [u32; 32]
 // ---- the modes in which it is written
 
 // The modes of an operation that ends after one date and by another.
-fn modes_within(cols: &[u32; 192], k: usize, after: u32, by: u32) -> u32
+fn modes_within(cols: &[u32; 224], k: usize, after: u32, by: u32) -> u32
     requires { ⌜ (k < 32) × Short (now cols) ⌝ }
     ensures { λ r. ⌜ r ≡ modesWithin (now (cols .entry)) after by k ⌝ }
 {
@@ -54,7 +54,7 @@ fn modes_within(cols: &[u32; 192], k: usize, after: u32, by: u32) -> u32
 }
 
 // The modes of all the operations of a set that do.
-pub fn ended_within(cols: &[u32; 192], ops: u32, after: u32, by: u32) -> u32
+pub fn ended_within(cols: &[u32; 224], ops: u32, after: u32, by: u32) -> u32
     requires { ⌜ Short (now cols) ⌝ }
     ensures { λ r. ⌜ r ≡ endedIn (now (cols .entry)) ops after by ⌝ }
 {
@@ -69,7 +69,7 @@ pub fn ended_within(cols: &[u32; 192], ops: u32, after: u32, by: u32) -> u32
 }
 
 // The modes of a writer in which no other ends after it: it is the last to write the cell. No operation ends after tick 1000.
-pub fn last_in(cols: &[u32; 192], writers: u32, i: usize) -> u32
+pub fn last_in(cols: &[u32; 224], writers: u32, i: usize) -> u32
     requires { ⌜ (i < 32) × Short (now cols) ⌝ }
     ensures { λ r. ⌜ r ≡ lastOf (now (cols .entry)) writers i ⌝ }
 {
@@ -83,7 +83,7 @@ pub fn last_in(cols: &[u32; 192], writers: u32, i: usize) -> u32
 // ---- the modes in which it is read
 
 // The modes of a reader in which no writer ends by its start: it finds what an earlier cycle left there.
-fn fresh_in(cols: &[u32; 192], writers: u32, j: usize) -> u32
+fn fresh_in(cols: &[u32; 224], writers: u32, j: usize) -> u32
     requires { ⌜ (j < 32) × Short (now cols) ⌝ }
     ensures { λ r. ⌜ r ≡ freshOf (now (cols .entry)) writers j ⌝ }
 {
@@ -95,7 +95,7 @@ fn fresh_in(cols: &[u32; 192], writers: u32, j: usize) -> u32
 }
 
 // The same for each reader; nobody asks for the set of another operation.
-pub fn fresh_sets(cols: &[u32; 192], writers: u32, readers: u32) -> [u32; 32]
+pub fn fresh_sets(cols: &[u32; 224], writers: u32, readers: u32) -> [u32; 32]
     requires { ⌜ Short (now cols) ⌝ }
     ensures { λ r. ⌜ FreshSets (now (cols .entry)) writers readers r ⌝ }
 {
@@ -111,7 +111,7 @@ pub fn fresh_sets(cols: &[u32; 192], writers: u32, readers: u32) -> [u32; 32]
 }
 
 // A tick before which no reader starts: as the walk goes, the start of the first, or 1000 where there is none.
-pub fn earliest(cols: &[u32; 192], readers: u32) -> u32
+pub fn earliest(cols: &[u32; 224], readers: u32) -> u32
     ensures { λ r. ⌜ Early (now (cols .entry)) readers r ⌝ }
 {
     let mut early: u32 = 1000;

@@ -1,6 +1,6 @@
 -- An operation that is stored is there, and the others stay; the columns of an accepted table are short.
 -- Assumes nothing.
-use Prim.Native.Nat.{ℕ, _+_, _<_, _≤_}
+use Prim.Native.Nat.{ℕ, _+_, _*_, _<_, _≤_}
 use mathlib.Core.Path.{_≡_, refl, sym, ap, subst⁻¹, _∙_}
 use mathlib.Core.List.{List, map}
 use native.Mathlib.Decide.{decLt}
@@ -33,38 +33,62 @@ module _ (cols : List ℕ) (k : ℕ) (o : Op) where
   abbrev c5 : List ℕ
   c5 = set c4 (128 + k) (o .writes)
 
-  -- a place that is none of its six stays
-  stays : (p : ℕ) → (p ≡ k → ⊥) → (p ≡ 32 + k → ⊥) → (p ≡ 64 + k → ⊥) → (p ≡ 96 + k → ⊥) → (p ≡ 128 + k → ⊥) → (p ≡ 160 + k → ⊥)
-      → getD (opPut cols k o) p 0 ≡ getD cols p 0
-  stays p e0 e1 e2 e3 e4 e5 =
-      getD-set-other c5 (160 + k) p (o .modes) 0 e5
-      ∙ getD-set-other c4 (128 + k) p (o .writes) 0 e4
-      ∙ getD-set-other c3 (96 + k) p (o .reads) 0 e3
-      ∙ getD-set-other c2 (64 + k) p (o .boards) 0 e2
-      ∙ getD-set-other c1 (32 + k) p (o .dur) 0 e1
-      ∙ getD-set-other cols k p (o .start) 0 e0
+  abbrev c6 : List ℕ
+  c6 = set c5 (160 + k) (o .modes)
+
+  -- what is stored into the last column, the last two and so on changes no place in front of them
+  past6 : (p : ℕ) → p < 192 + k → getD (opPut cols k o) p 0 ≡ getD c6 p 0
+  past6 p h = getD-set-other c6 (192 + k) p (o .hold) 0 (λ e. omega arith)
+
+  past5 : (p : ℕ) → p < 160 + k → getD (opPut cols k o) p 0 ≡ getD c5 p 0
+  past5 p h = past6 p (omega arith) ∙ getD-set-other c5 (160 + k) p (o .modes) 0 (λ e. omega arith)
+
+  past4 : (p : ℕ) → p < 128 + k → getD (opPut cols k o) p 0 ≡ getD c4 p 0
+  past4 p h = past5 p (omega arith) ∙ getD-set-other c4 (128 + k) p (o .writes) 0 (λ e. omega arith)
+
+  past3 : (p : ℕ) → p < 96 + k → getD (opPut cols k o) p 0 ≡ getD c3 p 0
+  past3 p h = past4 p (omega arith) ∙ getD-set-other c3 (96 + k) p (o .reads) 0 (λ e. omega arith)
+
+  past2 : (p : ℕ) → p < 64 + k → getD (opPut cols k o) p 0 ≡ getD c2 p 0
+  past2 p h = past3 p (omega arith) ∙ getD-set-other c2 (64 + k) p (o .boards) 0 (λ e. omega arith)
+
+  past1 : (p : ℕ) → p < 32 + k → getD (opPut cols k o) p 0 ≡ getD c1 p 0
+  past1 p h = past2 p (omega arith) ∙ getD-set-other c1 (32 + k) p (o .dur) 0 (λ e. omega arith)
+
+  with-there : length cols ≡ 224 → k < 32 → opBy (opPut cols k o) k ≡ o
+  with-there long h =
+      rw (
+        past1 k (omega arith) ∙ getD-set-same cols k (o .start) 0 (omega arith),
+        past2 (32 + k) (omega arith) ∙ getD-set-same c1 (32 + k) (o .dur) 0 (simp length-set (omega arith)),
+        past3 (64 + k) (omega arith) ∙ getD-set-same c2 (64 + k) (o .boards) 0 (simp length-set (omega arith)),
+        past4 (96 + k) (omega arith) ∙ getD-set-same c3 (96 + k) (o .reads) 0 (simp length-set (omega arith)),
+        past5 (128 + k) (omega arith) ∙ getD-set-same c4 (128 + k) (o .writes) 0 (simp length-set (omega arith)),
+        past6 (160 + k) (omega arith) ∙ getD-set-same c5 (160 + k) (o .modes) 0 (simp length-set (omega arith)),
+        getD-set-same c6 (192 + k) (o .hold) 0 (simp length-set (omega arith)),
+      )
+      refl
+
+  -- a place that is none of its seven stays
+  stays : (p : ℕ) → ((m : ℕ) → p ≡ 32 * m + k → ⊥) → getD (opPut cols k o) p 0 ≡ getD cols p 0
+  stays p e =
+      getD-set-other c6 (192 + k) p (o .hold) 0 (λ x. e 6 (omega arith))
+      ∙ getD-set-other c5 (160 + k) p (o .modes) 0 (λ x. e 5 (omega arith))
+      ∙ getD-set-other c4 (128 + k) p (o .writes) 0 (λ x. e 4 (omega arith))
+      ∙ getD-set-other c3 (96 + k) p (o .reads) 0 (λ x. e 3 (omega arith))
+      ∙ getD-set-other c2 (64 + k) p (o .boards) 0 (λ x. e 2 (omega arith))
+      ∙ getD-set-other c1 (32 + k) p (o .dur) 0 (λ x. e 1 (omega arith))
+      ∙ getD-set-other cols k p (o .start) 0 (λ x. e 0 (omega arith))
 
   with-other : (i : ℕ) → i < 32 → k < 32 → (i ≡ k → ⊥) → opBy (opPut cols k o) i ≡ opBy cols i
   with-other i h l e =
       rw (
-        stays i e (λ x. omega arith) (λ x. omega arith) (λ x. omega arith) (λ x. omega arith) (λ x. omega arith),
-        stays (32 + i) (λ x. omega arith) (λ x. e (omega arith)) (λ x. omega arith) (λ x. omega arith) (λ x. omega arith) (λ x. omega arith),
-        stays (64 + i) (λ x. omega arith) (λ x. omega arith) (λ x. e (omega arith)) (λ x. omega arith) (λ x. omega arith) (λ x. omega arith),
-        stays (96 + i) (λ x. omega arith) (λ x. omega arith) (λ x. omega arith) (λ x. e (omega arith)) (λ x. omega arith) (λ x. omega arith),
-        stays (128 + i) (λ x. omega arith) (λ x. omega arith) (λ x. omega arith) (λ x. omega arith) (λ x. e (omega arith)) (λ x. omega arith),
-        stays (160 + i) (λ x. omega arith) (λ x. omega arith) (λ x. omega arith) (λ x. omega arith) (λ x. omega arith) (λ x. e (omega arith)),
-      )
-      refl
-
-  with-there : length cols ≡ 192 → k < 32 → opBy (opPut cols k o) k ≡ o
-  with-there long h =
-      rw (
-        getD-set-other c5 (160 + k) k (o .modes) 0 (λ e. omega arith) ∙ getD-set-other c4 (128 + k) k (o .writes) 0 (λ e. omega arith) ∙ getD-set-other c3 (96 + k) k (o .reads) 0 (λ e. omega arith) ∙ getD-set-other c2 (64 + k) k (o .boards) 0 (λ e. omega arith) ∙ getD-set-other c1 (32 + k) k (o .dur) 0 (λ e. omega arith) ∙ getD-set-same cols k (o .start) 0 (omega arith),
-        getD-set-other c5 (160 + k) (32 + k) (o .modes) 0 (λ e. omega arith) ∙ getD-set-other c4 (128 + k) (32 + k) (o .writes) 0 (λ e. omega arith) ∙ getD-set-other c3 (96 + k) (32 + k) (o .reads) 0 (λ e. omega arith) ∙ getD-set-other c2 (64 + k) (32 + k) (o .boards) 0 (λ e. omega arith) ∙ getD-set-same c1 (32 + k) (o .dur) 0 (simp length-set (omega arith)),
-        getD-set-other c5 (160 + k) (64 + k) (o .modes) 0 (λ e. omega arith) ∙ getD-set-other c4 (128 + k) (64 + k) (o .writes) 0 (λ e. omega arith) ∙ getD-set-other c3 (96 + k) (64 + k) (o .reads) 0 (λ e. omega arith) ∙ getD-set-same c2 (64 + k) (o .boards) 0 (simp length-set (omega arith)),
-        getD-set-other c5 (160 + k) (96 + k) (o .modes) 0 (λ e. omega arith) ∙ getD-set-other c4 (128 + k) (96 + k) (o .writes) 0 (λ e. omega arith) ∙ getD-set-same c3 (96 + k) (o .reads) 0 (simp length-set (omega arith)),
-        getD-set-other c5 (160 + k) (128 + k) (o .modes) 0 (λ e. omega arith) ∙ getD-set-same c4 (128 + k) (o .writes) 0 (simp length-set (omega arith)),
-        getD-set-same c5 (160 + k) (o .modes) 0 (simp length-set (omega arith)),
+        stays i (λ m x. e (omega arith)),
+        stays (32 + i) (λ m x. e (omega arith)),
+        stays (64 + i) (λ m x. e (omega arith)),
+        stays (96 + i) (λ m x. e (omega arith)),
+        stays (128 + i) (λ m x. e (omega arith)),
+        stays (160 + i) (λ m x. e (omega arith)),
+        stays (192 + i) (λ m x. e (omega arith)),
       )
       refl
 
@@ -72,17 +96,17 @@ module _ (cols : List ℕ) (k : ℕ) (o : Op) where
 
 -- the first k operations are there, and nothing else
 pub record Filled (T : Table) (k : ℕ) (cols : List ℕ) : Type 0 where
-  pub long : length cols ≡ 192
+  pub long : length cols ≡ 224
   pub there : (i : ℕ) → i < k → opBy cols i ≡ op T i
   pub rest : (i : ℕ) → k ≤ i → i < 32 → opBy cols i ≡ noOp
 
-pub filled-none : (T : Table) → Filled T 0 (replicate 192 0)
+pub filled-none : (T : Table) → Filled T 0 (replicate 224 0)
 filled-none T = record { long = refl; there = λ i l. absurd (omega arith); rest = λ i l m. nothing i m }
   where
-    empty : (p : ℕ) → p < 192 → getD {A = ℕ} (replicate 192 0) p 0 ≡ 0
-    empty p h = getD-replicate {A = ℕ} 192 p 0 0 h
+    empty : (p : ℕ) → p < 224 → getD {A = ℕ} (replicate 224 0) p 0 ≡ 0
+    empty p h = getD-replicate {A = ℕ} 224 p 0 0 h
 
-    nothing : (i : ℕ) → i < 32 → opBy (replicate 192 0) i ≡ noOp
+    nothing : (i : ℕ) → i < 32 → opBy (replicate 224 0) i ≡ noOp
     nothing i h =
         rw (
           empty i (omega arith),
@@ -91,6 +115,7 @@ filled-none T = record { long = refl; there = λ i l. absurd (omega arith); rest
           empty (96 + i) (omega arith),
           empty (128 + i) (omega arith),
           empty (160 + i) (omega arith),
+          empty (192 + i) (omega arith),
         )
         refl
 
@@ -134,11 +159,11 @@ op-there T f e i m x = go (decLt i (nops T))
     go (no n) = absurd (in-none m (rw (List·getD-eq-default (T .ops) noOp {n = i} (omega arith), e) at x))
 
 module _ {T : Table} {cols : List ℕ} (ok : Accepted T) (c : Columns T cols) where
-  -- the end of an operation, and nothing past the operations, is inside the table
-  inside : (i : ℕ) → op T i .start + op T i .dur ≤ T .len
+  -- an operation, and what stands past the operations, lets go of its boards inside the table
+  inside : (i : ℕ) → heldTo (op T i) ≤ T .len
   inside i = go (decLt i (nops T))
     where
-      go : Dec (i < nops T) → op T i .start + op T i .dur ≤ T .len
+      go : Dec (i < nops T) → heldTo (op T i) ≤ T .len
       go (yes l) = ok .each i l .fits
       go (no l) = rw (List·getD-eq-default (T .ops) noOp {n = i} (omega arith)) (omega arith)
 

@@ -6,12 +6,13 @@ use mathlib.Core.List.{List}
 use lib.ListN.{getD, set}
 use Rattle.rules.specs.Table.{Op, Table, op, endOf, heldTo}
 
--- operation i by its columns: start, duration, boards, cells read, cells written, modes, 32 entries each
+-- operation i by its columns: start, duration, boards, cells read, cells written, modes, hold, 32 entries each
 abbrev pub opBy : List ℕ → ℕ → Op
 opBy cols i =
     record {
       start = getD cols i 0;
       dur = getD cols (32 + i) 0;
+      hold = getD cols (192 + i) 0;
       boards = getD cols (64 + i) 0;
       reads = getD cols (96 + i) 0;
       writes = getD cols (128 + i) 0;
@@ -21,7 +22,8 @@ opBy cols i =
 -- with operation k stored
 abbrev pub opPut : List ℕ → ℕ → Op → List ℕ
 opPut cols k o =
-    set (set (set (set (set (set cols k (o .start)) (32 + k) (o .dur)) (64 + k) (o .boards)) (96 + k) (o .reads)) (128 + k) (o .writes)) (160 + k) (o .modes)
+    let numbers = set (set (set (set (set (set cols k (o .start)) (32 + k) (o .dur)) (64 + k) (o .boards)) (96 + k) (o .reads)) (128 + k) (o .writes)) (160 + k) (o .modes) in
+    set numbers (192 + k) (o .hold)
 
 -- these are the columns of T; past its operations they hold nothing
 pub record Columns (T : Table) (cols : List ℕ) : Type 0 where

@@ -1,4 +1,4 @@
-// A table's operations in columns, made once for a table and lent from then on: a column for each of the six numbers, 32 entries each.
+// A table's operations in columns, made once for a table and lent from then on: a column for each of the seven numbers, 32 entries each.
 ghost use mathlib.Core.Path.{_≡_};
 ghost use mathlib.Core.List.{map};
 ghost use Prim.Native.Nat.{_<_, _≤_};
@@ -10,21 +10,21 @@ use table::Op;
 
 // ---- one number of an operation
 
-pub fn start(cols: &[u32; 192], i: usize) -> u32
+pub fn start(cols: &[u32; 224], i: usize) -> u32
     requires { ⌜ i < 32 ⌝ }
     ensures { λ r. ⌜ r ≡ opBy (now (cols .entry)) i .start ⌝ }
 {
     cols[i]
 }
 
-pub fn boards(cols: &[u32; 192], i: usize) -> u32
+pub fn boards(cols: &[u32; 224], i: usize) -> u32
     requires { ⌜ i < 32 ⌝ }
     ensures { λ r. ⌜ r ≡ opBy (now (cols .entry)) i .boards ⌝ }
 {
     cols[64 + i]
 }
 
-pub fn modes(cols: &[u32; 192], i: usize) -> u32
+pub fn modes(cols: &[u32; 224], i: usize) -> u32
     requires { ⌜ i < 32 ⌝ }
     ensures { λ r. ⌜ r ≡ opBy (now (cols .entry)) i .modes ⌝ }
 {
@@ -32,7 +32,7 @@ pub fn modes(cols: &[u32; 192], i: usize) -> u32
 }
 
 // The tick at which its writes come.
-pub fn end(cols: &[u32; 192], i: usize) -> u32
+pub fn end(cols: &[u32; 224], i: usize) -> u32
     requires { ⌜ (i < 32) × Short (now cols) ⌝ }
     ensures { λ r. ⌜ r ≡ endOf (opBy (now (cols .entry)) i) ⌝ }
 {
@@ -40,18 +40,18 @@ pub fn end(cols: &[u32; 192], i: usize) -> u32
 }
 
 // The tick from which it no longer holds its boards.
-pub fn held(cols: &[u32; 192], i: usize) -> u32
+pub fn held(cols: &[u32; 224], i: usize) -> u32
     requires { ⌜ (i < 32) × Short (now cols) ⌝ }
     ensures { λ r. ⌜ r ≡ heldTo (opBy (now (cols .entry)) i) ⌝ }
 {
-    let held = cols[32 + i];
-    cols[i] + held
+    let settled = cols[32 + i] + cols[192 + i];
+    cols[i] + settled
 }
 
 // ---- the columns of a table
 
 // One operation, in its place.
-fn put_op(cols: &mut [u32; 192], k: usize, o: Op)
+fn put_op(cols: &mut [u32; 224], k: usize, o: Op)
     requires { ⌜ k < 32 ⌝ }
     ensures { λ _. ⌜ now (cols .exit) ≡ opPut (now (cols .entry)) k (opOf o) ⌝ }
 {
@@ -61,14 +61,15 @@ fn put_op(cols: &mut [u32; 192], k: usize, o: Op)
     cols[96 + k] = o.reads;
     cols[128 + k] = o.writes;
     cols[160 + k] = o.modes;
+    cols[192 + k] = o.hold;
 }
 
 // All of them.
-pub fn columns(ops: [Op; 32], count: usize) -> [u32; 192]
+pub fn columns(ops: [Op; 32], count: usize) -> [u32; 224]
     requires { ⌜ (length ops ≡ 32) × (count ≤ 32) ⌝ }
     ensures { λ r. ⌜ ((T : Table) → T .ops ≡ map opOf (take count ops) → Columns T r) ⌝ }
 {
-    let mut cols = [0u32; 192];
+    let mut cols = [0u32; 224];
     let mut k: usize = 0;
     while k < count {
         put_op(&mut cols, k, ops[k]);

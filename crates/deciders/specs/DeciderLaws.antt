@@ -145,9 +145,5 @@ unfolding handedOf
 handed-fine T count who e = then-accepts _ (ranged-yes _ (opsEnd T) (ap (λ (k : ℕ). deciderWrong k who) (sym count) ∙ e))
 
 -- of the code's table
-module _ (t : Table) (full : t .count ≤ length (t .ops)) where
-  pub count-is : t .count ≡ nops (tableOf t)
-  count-is = sym (nops-count t full)
-
-  pub end-is : {at : ℕ} → at ≡ opsPlace (t .modes) + 21 * t .count → at ≡ opsEnd (tableOf t)
-  end-is e = omega (arith, e, count-is)
+pub count-is : (t : Table) → t .count ≤ length (t .ops) → t .count ≡ nops (tableOf t)
+count-is t full = sym (nops-count t full)

@@ -96,7 +96,8 @@ fn read_behind(s: &[u8], t: Table) -> Judged
     requires { ⌜ t ≡ tableIn (tableOf t) ⌝ }
     ensures { λ r. ⌜ JudgedAs (behindOf (now (s .entry)) (tableOf t)) r ⌝ }
 {
-    let at = table::ops_end(t.modes, t.count);
+    let ops = t.ops;
+    let at = widths::ops_end(t.modes, ops, t.count);
     let v = field_test(s, at, t.count);
     match v {
         Verdict::Refused(q) => table::deny(q),
@@ -129,7 +130,8 @@ fn hand_behind(t: Table, mark: u64, decider: u64) -> Judged
     }
     let wrong = decider_wrong(t.count, decider);
     if wrong != 0 {
-        let at = table::ops_end(t.modes, t.count);
+        let ops = t.ops;
+        let at = widths::ops_end(t.modes, ops, t.count);
         return table::deny(Refusal::Range(at, at + wrong));
     }
     named(t, Decider::Decides(decider as usize))

@@ -182,27 +182,27 @@ unfolding _then_ onwards
 test-onwards (accepted y) w x f e = e refl
 test-onwards (refused n a b) w x f e = refl
 
-module _ (tag size : ℕ) {A : Type 0} (wrong : A → ℕ) (value : List ℕ → ℕ → A) (s : List ℕ) where
+module _ (tag : ℕ) {A : Type 0} (size wrong : List ℕ → ℕ → ℕ) (value : List ℕ → ℕ → A) (s : List ℕ) where
   -- a repeated field that passes is whole, and was allowed to come
-  pub repeat-whole : (left at : ℕ) → repeatTest s at left tag size (wrong (value s at)) ≡ accepted tt → (at + 3 + size ≤ length s) × (left ≡ 0 → ⊥)
+  pub repeat-whole : (left at : ℕ) → repeatTest s at left tag (size s at) (wrong s at) ≡ accepted tt → (at + 3 + size s at ≤ length s) × (left ≡ 0 → ⊥)
   repeat-whole left at e =
-      repeat-passed s at tag size left
-      (then-first (repeatOf s at left tag size) _ (sym (repeat-split s at tag size (wrong (value s at)) left) ∙ e) .1)
+      repeat-passed s at tag (size s at) left
+      (then-first (repeatOf s at left tag (size s at)) _ (sym (repeat-split s at tag (size s at) (wrong s at) left) ∙ e) .1)
 
   -- the field at a place where they do not end, and those behind it
   pub from-next : (ends : List ℕ → ℕ → Bool) (left at : ℕ) → ends s at ≡ false
       → fieldsFrom ends tag size wrong value s left at
-      ≡ onwards (repeatTest s at left tag size (wrong (value s at)) then accepted (value s at))
-      (λ x. more x (fieldsFrom ends tag size wrong value s (left - 1) (at + (3 + size))))
+      ≡ onwards (repeatTest s at left tag (size s at) (wrong s at) then accepted (value s at))
+      (λ x. more x (fieldsFrom ends tag size wrong value s (left - 1) (at + (3 + size s at))))
   from-next ends zero at h =
       fields-end ends tag size wrong value s at
       ∙ rw h
-      (test-onwards (repeatTest s at 0 tag size (wrong (value s at))) (accepted []) (value s at) _ (λ e. absurd (repeat-whole 0 at e .1 refl)))
+      (test-onwards (repeatTest s at 0 tag (size s at) (wrong s at)) (accepted []) (value s at) _ (λ e. absurd (repeat-whole 0 at e .1 refl)))
   from-next ends (suc left) at h =
-      let p : at + 3 + size ≡ at + (3 + size) = omega arith in
+      let p : at + 3 + size s at ≡ at + (3 + size s at) = omega arith in
       let l : suc left - 1 ≡ left = omega arith in
       fields-next ends tag size wrong value s left at
       ∙ rw h
-      (test-onwards (repeatTest s at (suc left) tag size (wrong (value s at))) _ (value s at)
-      (λ x. more x (fieldsFrom ends tag size wrong value s (suc left - 1) (at + (3 + size))))
+      (test-onwards (repeatTest s at (suc left) tag (size s at) (wrong s at)) _ (value s at)
+      (λ x. more x (fieldsFrom ends tag size wrong value s (suc left - 1) (at + (3 + size s at))))
       (λ e. rw (l, p)))

@@ -11,8 +11,8 @@ use Rattle.deciders.specs.Deciders.{handedOf}
 use Rattle.handed_ops.specs.HandedOps.{handedOps, SmallCounts}
 
 -- the numbers, as they are handed over
-abbrev pub numbers : ℕ → ℕ → ℕ → ℕ → ℕ → List ℕ → List ℕ → ℕ → ℕ → Numbers
-numbers len boards cells modes first follow ops mark decider =
+abbrev pub numbers : ℕ → ℕ → ℕ → ℕ → ℕ → List ℕ → List ℕ → List ℕ → ℕ → ℕ → Numbers
+numbers len boards cells modes first follow ops holds mark decider =
     record {
       len = len;
       boards = boards;
@@ -21,21 +21,22 @@ numbers len boards cells modes first follow ops mark decider =
       first = first;
       follow = follow;
       ops = ops;
+      holds = holds;
       mark = mark;
       decider = decider;
     }
 
 -- those up to the operations
-abbrev pub unmarked : ℕ → ℕ → ℕ → ℕ → ℕ → List ℕ → List ℕ → Numbers
-unmarked len boards cells modes first follow ops = numbers len boards cells modes first follow ops 0 0
+abbrev pub unmarked : ℕ → ℕ → ℕ → ℕ → ℕ → List ℕ → List ℕ → List ℕ → Numbers
+unmarked len boards cells modes first follow ops holds = numbers len boards cells modes first follow ops holds 0 0
 
 -- what stands before the operations
 abbrev pub head : ℕ → ℕ → ℕ → ℕ → ℕ → List ℕ → Table
-head len boards cells modes first follow = headOfNumbers (unmarked len boards cells modes first follow [])
+head len boards cells modes first follow = headOfNumbers (unmarked len boards cells modes first follow [] [])
 
 -- the judgement of the numbers up to the operations
 unfoldable pub numbersVerdict : Numbers → Verdict Table
-numbersVerdict N = numbersTest N then handedOps (headOfNumbers N) (N .ops)
+numbersVerdict N = numbersTest N then handedOps (headOfNumbers N) (N .ops) (N .holds)
 
 -- and of all numbers, without that of the whole
 unfoldable pub wholeVerdict : Numbers → Verdict Table

@@ -11,14 +11,14 @@ use lib.ListN.{length}
 use borrow.Author.Tests.{eq-eqb, ne-eqb, eqb-true, not-false}
 use Rattle.rules.specs.Table.{SetOf}
 use Rattle.rules.specs.Verdicts.{accepted, refused, ORDER, SIZE, RANGE, refuseIf, _then_}
-use Rattle.rules.specs.Judge.{Numbers, headOfNumbers, ranged, number, lenWrong, countsWrong, setOk, setRanges, setsWrong, opsPlace, numbersTest}
+use Rattle.rules.specs.Judge.{Numbers, headOfNumbers, ranged, number, lenWrong, countsWrong, setOk, setRanges, setsWrong, opsPlace, noneLeft, numbersTest}
 use Rattle.theory.proofs.Verdicts.{passes, refuses, passed, then-accepts, then-refuses, then-first, then-rest}
 use Rattle.theory.proofs.Judging.{says-sets, says-len, says-counts, numbers-row}
 use Rattle.theory.proofs.Ranges.{wrong-here, wrong-later, setsFrom, range-passed, ranged-yes, ranged-no}
 use Rattle.fields.specs.Verdicts.{refusalOf}
 use Rattle.fields.specs.declared.Refusal.{Refusal}
 use Rattle.fields.specs.RefusalLaws.{then-refusal}
-use Rattle.handed_ops.specs.HandedOps.{handedOps, SmallCounts}
+use Rattle.handed_ops.specs.HandedOps.{noneBehind, handedOps, SmallCounts}
 use Rattle.handed.specs.Handed.{numbersVerdict, Small}
 
 -- ---- what stands before the operations
@@ -38,7 +38,7 @@ module _ (N : Numbers) where
       to-size : numbersTest N
           ≡ (refuseIf (not (eqb (length (N .follow)) (N .modes))) SIZE 11 0
           then ranged (setsWrong (N .modes) (N .first ∷ N .follow)) 11
-          then refuseIf (eqb (length (N .ops)) 0) ORDER (opsPlace (N .modes)) 0)
+          then refuseIf (noneLeft (N .ops) (N .holds)) ORDER (opsPlace (N .modes)) 0)
       to-size = numbers-row N ∙ then-accepts _ (ranged-yes _ 0 e0) ∙ then-accepts _ (ranged-yes _ 5 e1)
 
       pub test-size : (length (N .follow) ≡ N .modes → ⊥) → numbersTest N ≡ refused SIZE 11 0
@@ -46,18 +46,20 @@ module _ (N : Numbers) where
 
       module _ (e2 : length (N .follow) ≡ N .modes) where
         to-sets : numbersTest N
-            ≡ (ranged (setsWrong (N .modes) (N .first ∷ N .follow)) 11 then refuseIf (eqb (length (N .ops)) 0) ORDER (opsPlace (N .modes)) 0)
+            ≡ (ranged (setsWrong (N .modes) (N .first ∷ N .follow)) 11 then refuseIf (noneLeft (N .ops) (N .holds)) ORDER (opsPlace (N .modes)) 0)
         to-sets = to-size ∙ then-accepts _ (passes _ SIZE 11 0 (ap not (eq-eqb _ _ e2)))
 
         pub test-sets : {wrong : ℕ} → wrong ≡ setsWrong (N .modes) (N .first ∷ N .follow) → (wrong ≡ 0 → ⊥) → numbersTest N ≡ refused RANGE 11 (11 + wrong)
         test-sets {wrong} e n = to-sets ∙ then-refuses _ (ap (λ (w : ℕ). ranged w 11) (sym e) ∙ ranged-no wrong 11 n)
 
         module _ (e3 : setsWrong (N .modes) (N .first ∷ N .follow) ≡ 0) where
-          pub test-none : length (N .ops) ≡ 0 → numbersTest N ≡ refused ORDER (opsPlace (N .modes)) 0
-          test-none h = to-sets ∙ then-accepts _ (ranged-yes _ 11 e3) ∙ refuses _ ORDER _ 0 (eq-eqb _ 0 h)
+          pub test-none : noneBehind (N .ops) (N .holds) 0 ≡ true → numbersTest N ≡ refused ORDER (opsPlace (N .modes)) 0
+          unfolding noneBehind
+          test-none h = to-sets ∙ then-accepts _ (ranged-yes _ 11 e3) ∙ refuses _ ORDER _ 0 h
 
-          pub test-some : (length (N .ops) ≡ 0 → ⊥) → numbersTest N ≡ accepted tt
-          test-some h = to-sets ∙ then-accepts _ (ranged-yes _ 11 e3) ∙ passes _ ORDER _ 0 (ne-eqb _ 0 h)
+          pub test-some : noneBehind (N .ops) (N .holds) 0 ≡ false → numbersTest N ≡ accepted tt
+          unfolding noneBehind
+          test-some h = to-sets ∙ then-accepts _ (ranged-yes _ 11 e3) ∙ passes _ ORDER _ 0 h
 
 -- ---- the sets: the first modes, and then the words, of which word i would begin at 7 + 4·i
 module _ (n first : ℕ) (ws : List ℕ) where
@@ -102,6 +104,6 @@ module _ (N : Numbers) where
   unfolding numbersVerdict
   verdict-refused q e = then-refusal q _ (sym e)
 
-  pub verdict-ops : numbersTest N ≡ accepted tt → numbersVerdict N ≡ handedOps (headOfNumbers N) (N .ops)
+  pub verdict-ops : numbersTest N ≡ accepted tt → numbersVerdict N ≡ handedOps (headOfNumbers N) (N .ops) (N .holds)
   unfolding numbersVerdict
   verdict-ops e = then-accepts _ e

@@ -33,6 +33,7 @@ without N =
       first = N .first;
       follow = N .follow;
       ops = N .ops;
+      holds = N .holds;
       mark = 0;
       decider = 0;
     }
@@ -87,7 +88,7 @@ module _ (N : Numbers) where
   unfolding wholeVerdict numbersVerdict handedOps
   numbers-pairs =
       judgeNumbers-row N
-      ∙ then-onwards (numbersTest N) (opsOfNumbers (headOfNumbers N) (N .ops) 32 (opsPlace (N .modes))) (withOps (headOfNumbers N)) (judgeDecider (deciderOf N))
+      ∙ then-onwards (numbersTest N) (opsOfNumbers (headOfNumbers N) (N .ops) (N .holds) 32 (opsPlace (N .modes))) (withOps (headOfNumbers N)) (judgeDecider (deciderOf N))
       ∙ onwards-same _ (judgeDecider (deciderOf N)) (λ T. onwards (handedOf (deciderOf N) T) judgeWhole) (λ T _. decider-whole T)
       ∙ sym (onwards-onwards _ (handedOf (deciderOf N)) judgeWhole)
 

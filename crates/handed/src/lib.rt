@@ -42,8 +42,9 @@ fn head_test(
     first: u64,
     follow: &[u64],
     ops: &[u64],
+    holds: &[u64],
 ) -> Verdict
-    ensures { λ r. ⌜ tested r ≡ numbersTest (unmarked p boards cells modes first (now (follow .entry)) (now (ops .entry))) ⌝ }
+    ensures { λ r. ⌜ tested r ≡ numbersTest (unmarked p boards cells modes first (now (follow .entry)) (now (ops .entry)) (now (holds .entry))) ⌝ }
 {
     let len = ranges::len_wrong(p);
     if len != 0 {
@@ -60,7 +61,7 @@ fn head_test(
     if sets != 0 {
         return Verdict::Refused(Refusal::Range(11, 11 + sets));
     }
-    if ops.len() == 0 {
+    if handed_ops::none_left(ops, holds, 0) {
         return Verdict::Refused(Refusal::Order(table::ops_place(modes as u32)));
     }
     Verdict::Accepted
@@ -110,15 +111,17 @@ fn judge_fields(
     first: u64,
     follow: &[u64],
     ops: &[u64],
+    holds: &[u64],
 ) -> Judged
-    ensures { λ r. ⌜ JudgedAs (numbersVerdict (unmarked p boards cells modes first (now (follow .entry)) (now (ops .entry)))) r ⌝ }
+    ensures { λ r. ⌜ JudgedAs (numbersVerdict (unmarked p boards cells modes first (now (follow .entry)) (now (ops .entry)) (now (holds .entry)))) r ⌝ }
 {
-    let v = head_test(p, boards, cells, modes, first, follow, ops);
+    let v = head_test(p, boards, cells, modes, first, follow, ops, holds);
     match v {
         Verdict::Refused(q) => table::deny(q),
         Verdict::Accepted => handed_ops::take_ops(
             head_of(p, boards, cells, modes, first, follow),
             ops,
+            holds,
         ),
     }
 }
@@ -132,11 +135,12 @@ pub fn judge(
     first: u64,
     follow: &[u64],
     ops: &[u64],
+    holds: &[u64],
     mark: u64,
     decider: u64,
 ) -> Judged
-    ensures { λ r. ⌜ JudgedAs (judgeNumbers (numbers p boards cells modes first (now (follow .entry)) (now (ops .entry)) mark decider)) r ⌝ }
+    ensures { λ r. ⌜ JudgedAs (judgeNumbers (numbers p boards cells modes first (now (follow .entry)) (now (ops .entry)) (now (holds .entry)) mark decider)) r ⌝ }
 {
-    let fields = judge_fields(p, boards, cells, modes, first, follow, ops);
+    let fields = judge_fields(p, boards, cells, modes, first, follow, ops, holds);
     whole::judge(deciders::hand(fields, mark, decider))
 }

@@ -8,7 +8,7 @@ ghost use Rattle.columns.specs.Columns.{Short};
 ghost use Rattle.laters.specs.Laters.{MayMeet, LaterOf, AllLater, AllEmpty};
 
 // Operation j shares a board with i, and starts one cycle of q later before i has let go of it.
-fn may_meet(cols: &[u32; 192], i: usize, j: usize, q: u32) -> bool
+fn may_meet(cols: &[u32; 224], i: usize, j: usize, q: u32) -> bool
     requires { ⌜ (i < 32) × (j < 32) × Short (now cols) × (q ≤ 1000) ⌝ }
     ensures { λ r. ⌜ (r ≡ true) ↔ MayMeet (now (cols .entry)) i q j ⌝ }
 {
@@ -19,7 +19,7 @@ fn may_meet(cols: &[u32; 192], i: usize, j: usize, q: u32) -> bool
 }
 
 // All that may meet operation i.
-fn later_of(cols: &[u32; 192], i: usize, q: u32) -> u32
+fn later_of(cols: &[u32; 224], i: usize, q: u32) -> u32
     requires { ⌜ (i < 32) × Short (now cols) × (q ≤ 1000) ⌝ }
     ensures { λ r. ⌜ LaterOf (now (cols .entry)) i q 32 r ⌝ }
 {
@@ -35,7 +35,7 @@ fn later_of(cols: &[u32; 192], i: usize, q: u32) -> u32
 }
 
 // The same for each operation.
-pub fn later_sets(cols: &[u32; 192], q: u32) -> [u32; 32]
+pub fn later_sets(cols: &[u32; 224], q: u32) -> [u32; 32]
     requires { ⌜ Short (now cols) × (q ≤ 1000) ⌝ }
     ensures { λ r. ⌜ (length r ≡ 32) × AllLater (now (cols .entry)) q 32 r ⌝ }
 {

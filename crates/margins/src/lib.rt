@@ -2,7 +2,7 @@
 ghost use mathlib.Core.Path.{_≡_};
 ghost use Prim.Native.Nat.{_^_, _<_, _≤_};
 ghost use lib.IntN.{pos, _-ℤ_};
-ghost use Rattle.rules.specs.Table.{endOf};
+ghost use Rattle.rules.specs.Table.{heldTo};
 ghost use Rattle.rules.specs.Verdicts.{accepted, _then_};
 ghost use Rattle.rules.specs.Rows.{margin};
 ghost use Rattle.rules.specs.Answers.{marginTest, IsMargin};
@@ -28,7 +28,7 @@ fn diff(later: u32, end: u32) -> i32
 
 // n·q less what o ends after u starts.
 fn measure(o: Op, u: Op, n: u32, q: u32) -> i32
-    requires { ⌜ (n ≤ 1000) × (q ≤ 1000) × (endOf (opOf o) ≤ 1000) × (u .start ≤ 1000) ⌝ }
+    requires { ⌜ (n ≤ 1000) × (q ≤ 1000) × (heldTo (opOf o) ≤ 1000) × (u .start ≤ 1000) ⌝ }
     ensures { λ r. ⌜ r ≡ gap n q o u ⌝ }
 {
     let later = n * q + u.start;

@@ -20,7 +20,7 @@ fn mark(wrong: &mut [u8; 1000], from: u32, to: u32)
 }
 
 // The periods from q on at which operation j, n + 1 cycles after i, runs while i holds its boards.
-fn mark_pair(wrong: &mut [u8; 1000], cols: &[u32; 192], i: usize, j: usize, n: u32, q: u32)
+fn mark_pair(wrong: &mut [u8; 1000], cols: &[u32; 224], i: usize, j: usize, n: u32, q: u32)
     requires { ⌜ (length (now wrong) ≡ 1000) × (i < 32) × (j < 32) × Short (now cols) × (n ≤ 1000) × (q ≤ 1000) ⌝ }
     ensures { λ _. ⌜ Adds (now (wrong .entry)) (λ x. (q ≤ x) × Meets (opBy (now (cols .entry)) i) (opBy (now (cols .entry)) j) n x) (now (wrong .exit)) ⌝ }
 {
@@ -33,7 +33,7 @@ fn mark_pair(wrong: &mut [u8; 1000], cols: &[u32; 192], i: usize, j: usize, n: u
 // further distance and every longer period.
 fn mark_one(
     wrong: &mut [u8; 1000],
-    cols: &[u32; 192],
+    cols: &[u32; 224],
     i: usize,
     j: usize,
     after: u32,
@@ -57,7 +57,7 @@ fn mark_one(
 // The same for each operation of a set; those that still count are given back.
 pub fn mark_op(
     wrong: &mut [u8; 1000],
-    cols: &[u32; 192],
+    cols: &[u32; 224],
     i: usize,
     set: u32,
     after: u32,

@@ -109,11 +109,12 @@ pub fn write_table(
     first: u64,
     follow: &[u64],
     ops: &[u64],
+    holds: &[u64],
     mark: u64,
     decider: u64,
     out: &mut [u8],
 ) -> Answer
-    ensures { λ r. ⌜ IsWrite (numbers p boards cells modes first (now (follow .entry)) (now (ops .entry)) mark decider) (now (out .entry)) (leaving (answered r) (now (out .exit))) ⌝ }
+    ensures { λ r. ⌜ IsWrite (numbers p boards cells modes first (now (follow .entry)) (now (ops .entry)) (now (holds .entry)) mark decider) (now (out .entry)) (leaving (answered r) (now (out .exit))) ⌝ }
 {
     writing::write(
         p,
@@ -123,6 +124,7 @@ pub fn write_table(
         first,
         follow,
         ops,
+        holds,
         mark,
         decider,
         out,

@@ -35,14 +35,20 @@ unfolding joined
 joined-snoc f [] x = append-nil (f x)
 joined-snoc f (y ∷ xs) x = ap (λ (l : List ℕ). f y ++ l) (joined-snoc f xs x) ∙ sym (append-assoc (f y) (joined f xs) (f x))
 
-module _ {A : Type 0} (f : A → List ℕ) (w : ℕ) (width : (x : A) → length (f x) ≡ w) (xs : List A) (out : List ℕ) (at : ℕ) where
+module _ {A : Type 0} (f : A → List ℕ) (xs : List A) (out : List ℕ) (at : ℕ) where
   -- one turn: the bytes of the next one, behind those of the i before it
+  pub stored-next : (d : A) (i : ℕ) {mid end : List ℕ} {n : ℕ} → i < length xs → mid ≡ stored out at (joined f (take i xs))
+      → n ≡ at + length (joined f (take i xs)) → end ≡ stored mid n (f (getD xs i d)) → end ≡ stored out at (joined f (take (i + 1) xs))
+  stored-next d i h e place g =
+      stored-then out at (joined f (take i xs)) (f (getD xs i d)) e place g ∙ rw (add-one, take-suc xs i d h, joined-snoc)
+
+-- where each has so many
+module _ {A : Type 0} (f : A → List ℕ) (w : ℕ) (width : (x : A) → length (f x) ≡ w) (xs : List A) (out : List ℕ) (at : ℕ) where
   pub stored-turn : (d : A) (i : ℕ) {mid end : List ℕ} {n : ℕ} → i < length xs → mid ≡ stored out at (joined f (take i xs)) → n ≡ at + w * i
       → end ≡ stored mid n (f (getD xs i d)) → end ≡ stored out at (joined f (take (i + 1) xs))
-  stored-turn d i {mid} {end} {n} h e place g =
+  stored-turn d i h e place g =
       let long : length (joined f (take i xs)) ≡ w * i = joined-length f w width (take i xs) ∙ rw (length-take-le i xs (omega arith)) in
-      stored-then out at (joined f (take i xs)) (f (getD xs i d)) e (omega arith) g
-      ∙ rw (add-one, take-suc xs i d h, joined-snoc)
+      stored-next f xs out at d i h e (omega arith) g
 
 -- ---- from the front
 

@@ -1,18 +1,19 @@
 -- The numbers that are tested, as the rules have them.
 -- Assumes nothing.
-use Prim.Native.Nat.{ℕ, _^_}
-use mathlib.Core.List.{[], _∷_}
-use lib.Dec.{ltb}
+use Prim.Native.Nat.{ℕ}
+use mathlib.Core.Bool.{Bool, cond}
+use mathlib.Core.List.{[], _++_}
 use Rattle.rules.specs.Table.{Op, nobody, Table}
-use Rattle.rules.specs.Judge.{number, wrongFrom, setOk}
+use Rattle.rules.specs.Judge.{wrongFrom, firstWrong, setOk, dateRanges, holdRanges, usedRanges}
 use Rattle.ranges.specs.declared.Wide.{Wide}
 
--- an operation's six numbers
+-- an operation's numbers
 abbrev pub wideOf : Wide → Op
 wideOf o =
     record {
       start = o .start;
       dur = o .dur;
+      hold = o .hold;
       boards = o .boards;
       reads = o .reads;
       writes = o .writes;
@@ -24,13 +25,16 @@ abbrev pub counted : ℕ → ℕ → ℕ → ℕ → Table
 counted len boards cells modes =
     record { len = len; boards = boards; cells = cells; modes = modes; first = 0; follow = []; ops = []; decider = nobody }
 
--- of an operation whose dates are in range: which of its sets is wrong first
-unfoldable pub setsOf : Table → Op → ℕ
-unfolding wrongFrom
-setsOf T o =
-    wrongFrom 7
-    (number 2 (o .boards) (setOk (T .boards))
-    ∷ number 4 (o .reads) (λ r. ltb r (2 ^ T .cells))
-    ∷ number 4 (o .writes) (λ w. ltb w (2 ^ T .cells))
-    ∷ number 4 (o .modes) (setOk (T .modes))
-    ∷ [])
+-- which of its dates is wrong first, in a table of this length
+unfoldable pub datesOf : ℕ → Bool → Op → ℕ
+unfolding firstWrong
+datesOf len held o = firstWrong (dateRanges (counted len 0 0 0) o ++ holdRanges (counted len 0 0 0) held o)
+
+-- where its sets begin in the field
+abbrev pub usedAt : Bool → ℕ
+usedAt held = cond held 9 7
+
+-- which of its sets is wrong first, if the first of them begins at a place
+unfoldable pub setsOf : Table → ℕ → Op → ℕ
+unfolding wrongFrom setOk
+setsOf T place o = wrongFrom place (usedRanges T o)

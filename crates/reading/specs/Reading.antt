@@ -7,32 +7,20 @@ use lib.Dec.{leb, ltb, eqb}
 use lib.ListN.{length}
 use Rattle.rules.specs.Table.{Op, Table}
 use Rattle.rules.specs.Verdicts.{Verdict, accepted, _then_, onwards}
-use Rattle.rules.specs.Bytes.{num8, opAt}
-use Rattle.rules.specs.Judge.{repeatTest, opWrong, headOf, withOps, opsPlace, headTest, opsFrom}
-use Rattle.fields.specs.Verdicts.{refusalOf}
-use Rattle.table.specs.Tables.{opOf}
+use Rattle.rules.specs.Bytes.{num8}
+use Rattle.rules.specs.Judge.{headOf, withOps, opsPlace, headTest, opsFrom}
 use Rattle.table.specs.declared.Table as code
 use Rattle.ranges.specs.Ranges.{counted}
 use Rattle.deciders.specs.Deciders.{behindOf}
-use Rattle.reading.specs.declared.Next.{Next}
-use Rattle.reading.specs.declared.Next.the-variants.{Here, Bad}
+use Rattle.reading_ops.specs.ReadingOps.{opVerdict}
 
 -- the operations end at a place, when the first of them is due at another
 abbrev pub doneAt : ℕ → List ℕ → ℕ → Bool
 doneAt first s at = leb (length s) at || (ltb first at && eqb (num8 s at) 5)
 
--- one operation's field, when `left` more may come, with the operation
-unfoldable pub opVerdict : Table → List ℕ → ℕ → ℕ → Verdict Op
-opVerdict T s left at = repeatTest s at left 4 18 (opWrong T (opAt s at)) then accepted (opAt s at)
-
--- the same by the length and the counts of the code's table, which holds the operations before this one
+-- one operation's field, by the length and the counts of the code's table, which holds the operations before this one
 abbrev pub nextVerdict : code.Table → List ℕ → ℕ → Verdict Op
 nextVerdict t s at = opVerdict (counted (t .len) (t .boards) (t .cells) (t .modes)) s (32 - t .count) at
-
--- the code's answer to it
-abbrev pub nextOf : Next → Verdict Op
-nextOf (Here o) = accepted (opOf o)
-nextOf (Bad r) = refusalOf r
 
 -- the operations behind the head, with the head
 unfoldable pub opsVerdict : List ℕ → Verdict Table

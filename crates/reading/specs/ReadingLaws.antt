@@ -1,4 +1,4 @@
--- What each way out of the reading says: one operation, and operations one after the other behind a head that passes.
+-- What each way out of the reading says: operations one after the other behind a head that passes.
 -- Assumes nothing.
 use Prim.Native.Nat.{ℕ, _+_, _-_, _*_, _<_, _≤_}
 use mathlib.Core.Path.{_≡_, refl, sym, ap, _∙_}
@@ -10,8 +10,8 @@ use lib.ListN.{length, length-append}
 use borrow.Author.Tests.{leb-true, leb-false}
 use Rattle.rules.specs.Table as rules
 use Rattle.rules.specs.Verdicts.{Verdict, accepted, refused, RANGE, _then_, onwards, more}
-use Rattle.rules.specs.Bytes.{num8, opAt}
-use Rattle.rules.specs.Judge.{ranged, opWrong, headOf, withOps, opsPlace, opsDone, opsFrom}
+use Rattle.rules.specs.Bytes.{num8, heldAt, opAt}
+use Rattle.rules.specs.Judge.{repeatTest, headOf, withOps, opsPlace, opsDone, sizeAt, wrongAt, opsFrom}
 use Rattle.theory.proofs.Verdicts.{then-accepts, then-refuses, then-first, onwards-accepts}
 use Rattle.theory.proofs.Ranges.{ranged-yes, ranged-no}
 use Rattle.theory.proofs.Says.{Known, holds, fails, known, clash-bool}
@@ -28,33 +28,10 @@ use Rattle.table.specs.declared.Table.{Table}
 use Rattle.table.specs.Tables.{opOf, tableIn, withOp, JudgedAs}
 use Rattle.table.specs.TableLaws.{with-op-in}
 use Rattle.table.specs.JudgedLaws.{granted}
-use Rattle.reading.specs.Reading.{doneAt, opVerdict, nextVerdict, opsVerdict}
+use Rattle.ranges.specs.RangeLaws.{wrong-counted}
+use Rattle.reading_ops.specs.ReadingOps.{opVerdict}
+use Rattle.reading.specs.Reading.{doneAt, nextVerdict, opsVerdict}
 use Rattle.heads.specs.HeadLaws.{HeadFits}
-
--- ---- one operation
-
--- what was judged of the numbers read is so of the operation that has them
-pub op-judged : (T : rules.Table) {w o : rules.Op} {wrong : ℕ} → wrong ≡ opWrong T w → w ≡ o → opWrong T o ≡ wrong
-op-judged T e h = sym (e ∙ ap (opWrong T) h)
-
-module _ (T : rules.Table) (s : List ℕ) (left at : ℕ) where
-  op-split : opVerdict T s left at ≡ ((repeatOf s at left 4 18 then ranged (opWrong T (opAt s at)) at) then accepted (opAt s at))
-  unfolding opVerdict
-  op-split = rw (repeat-split s at 4 18 (opWrong T (opAt s at)) left)
-
-  -- an operation's field is refused where its tests before the ranges refuse
-  pub op-bad : (r : Refusal) → refusalOf r ≡ repeatOf s at left 4 18 → refusalOf r ≡ opVerdict T s left at
-  op-bad r e = sym (op-split ∙ then-refusal r _ (then-refusal r (ranged (opWrong T (opAt s at)) at) (sym e)))
-
-  module _ (e : accepted tt ≡ repeatOf s at left 4 18) where
-    op-first : (repeatOf s at left 4 18 then ranged (opWrong T (opAt s at)) at) ≡ ranged (opWrong T (opAt s at)) at
-    op-first = then-accepts _ (sym e)
-
-    pub op-range : {wrong : ℕ} → opWrong T (opAt s at) ≡ wrong → (wrong ≡ 0 → ⊥) → refused RANGE at (at + wrong) ≡ opVerdict T s left at
-    op-range {wrong} e n = sym (op-split ∙ then-refuses _ (op-first ∙ ap (λ (w : ℕ). ranged w at) e ∙ ranged-no wrong at n))
-
-    pub op-fine : opWrong T (opAt s at) ≡ 0 → accepted (opAt s at) ≡ opVerdict T s left at
-    op-fine h = sym (op-split ∙ then-accepts _ (op-first ∙ ranged-yes _ at h))
 
 -- ---- operations
 
@@ -76,13 +53,13 @@ module _ {A : Type 0} where
 module _ (T : rules.Table) (s : List ℕ) where
   ops-end : (left at : ℕ) → opsDone T s at ≡ true → opsFrom T s left at ≡ accepted []
   unfolding opsFrom
-  ops-end left at = no-field (opsDone T) 4 18 (opWrong T) opAt s at left
+  ops-end left at = no-field (opsDone T) 4 sizeAt (wrongAt T) opAt s at left
 
   -- the operation at a place where they do not end, and those behind it
   ops-next : (left at : ℕ) → opsDone T s at ≡ false
-      → opsFrom T s left at ≡ onwards (opVerdict T s left at) (λ o. more o (opsFrom T s (left - 1) (at + 21)))
+      → opsFrom T s left at ≡ onwards (opVerdict T s left at) (λ o. more o (opsFrom T s (left - 1) (at + (3 + sizeAt s at))))
   unfolding opsFrom opVerdict
-  ops-next = from-next 4 18 (opWrong T) opAt s (opsDone T)
+  ops-next = from-next 4 sizeAt (wrongAt T) opAt s (opsDone T)
 
 -- where the reading of the operations stands: these are read, the table holds them, and the rest comes from a place on
 pub record SoFar (s : List ℕ) (t : Table) (at : ℕ) : Type 0 where
@@ -93,9 +70,9 @@ pub record SoFar (s : List ℕ) (t : Table) (at : ℕ) : Type 0 where
 
 -- the field at a place is whole, the table has a place for its operation, and with that the reading stands behind the field
 pub record More (s : List ℕ) (t : Table) (at : ℕ) (o : Op) : Type 0 where
-  pub whole : at + 21 ≤ length s
+  pub whole : at + (3 + sizeAt s at) ≤ length s
   pub some : t .count < 32
-  pub so : SoFar s (withOp t o) (at + 21)
+  pub so : SoFar s (withOp t o) (at + (3 + sizeAt s at))
 
 -- at first nothing is read
 module _ (s : List ℕ) (t : Table) (e : t ≡ tableIn (headOf s)) where
@@ -139,8 +116,10 @@ module _ {s : List ℕ} {t : Table} {at : ℕ} (so : SoFar s t at) where
 
   -- so the next field is judged by the table as it is by the head
   so-same : nextVerdict t s at ≡ opVerdict (headOf s) s (32 - length (so .ops)) at
-  unfolding opVerdict opWrong
-  so-same = ap (λ (u : Table). nextVerdict u s at) (so .held)
+  unfolding opVerdict
+  so-same =
+      ap (λ (u : Table). nextVerdict u s at) (so .held)
+      ∙ ap (λ (w : ℕ). repeatTest s at (32 - length (so .ops)) 4 (sizeAt s at) w then accepted (opAt s at)) (wrong-counted (headOf s) (heldAt s at) (opAt s at))
 
   -- a field that is refused
   pub so-bad : (r : Refusal) → opsDone (headOf s) s at ≡ false → refusalOf r ≡ nextVerdict t s at → opsVerdict s ≡ refusalOf r
@@ -157,7 +136,7 @@ module _ {s : List ℕ} {t : Table} {at : ℕ} (so : SoFar s t at) where
       let H = headOf s in
       let os = so .ops in
       let here = sym (e ∙ so-same) in
-      let (whole, some) = repeat-whole 4 18 (opWrong H) opAt s (32 - length os) at (then-first _ _ here .1) in
+      let (whole, some) = repeat-whole 4 sizeAt (wrongAt H) opAt s (32 - length os) at (then-first _ _ here .1) in
       let count : t .count ≡ length os = ap (λ (u : Table). u .count) (so .held) in
       let few : length os < 32 = omega arith in
       let longer = length-append os (opOf o ∷ []) in
@@ -173,7 +152,7 @@ module _ {s : List ℕ} {t : Table} {at : ℕ} (so : SoFar s t at) where
               so .rest
               ∙ ap (mores os) (ops-next H s (32 - length os) at h ∙ onwards-accepts _ here)
               ∙ mores-more os (opOf o) _
-              ∙ ap (λ (n : ℕ). mores (os ++ (opOf o ∷ [])) (opsFrom H s n (at + 21))) left;
+              ∙ ap (λ (n : ℕ). mores (os ++ (opOf o ∷ [])) (opsFrom H s n (at + (3 + sizeAt s at)))) left;
         };
       }
 

@@ -1,59 +1,14 @@
 // A table's bytes, read field by field in document 01's order, with the decider's field behind them, and then judged as a whole.
 ghost use mathlib.Core.Path.{_≡_};
-ghost use Prim.Native.Nat.{_+_, _<_, _≤_};
-ghost use lib.ListN.{length};
 ghost use Rattle.rules.specs.Verdicts.{accepted};
-ghost use Rattle.rules.specs.Bytes.{opAt};
 ghost use Rattle.rules.specs.Judge.{headTest, judge};
 ghost use Rattle.table.specs.Tables.{JudgedAs};
-ghost use Rattle.ranges.specs.Ranges.{wideOf, counted};
-ghost use Rattle.reading.specs.Reading.{doneAt, nextOf, opVerdict, opsVerdict, fieldsVerdict};
-use fields::Refusal;
+ghost use Rattle.reading.specs.Reading.{doneAt, opsVerdict, fieldsVerdict};
 use fields::Verdict;
-use ranges::Wide;
+use reading_ops::Next;
 use table::Judged;
-use table::Op;
-use table::Table;
-
-// The next operation, or why there is none.
-enum Next {
-    Here(Op),
-    Bad(Refusal),
-}
 
 // ---- the operations
-
-// The six numbers of the operation's field at a place.
-fn read_op(s: &[u8], at: usize) -> Wide
-    requires { ⌜ at + 21 ≤ length (now s) ⌝ }
-    ensures { λ r. ⌜ wideOf r ≡ opAt (now (s .entry)) at ⌝ }
-{
-    Wide {
-        start: fields::be16(s, at + 3) as u64,
-        dur: fields::be16(s, at + 5) as u64,
-        boards: fields::be16(s, at + 7) as u64,
-        reads: fields::be32(s, at + 9) as u64,
-        writes: fields::be32(s, at + 13) as u64,
-        modes: fields::be32(s, at + 17) as u64,
-    }
-}
-
-// The field at a place inside the input, when `left` more operations may come, in a table of this length and these counts.
-fn next_op(s: &[u8], at: usize, left: usize, len: u32, boards: u32, cells: u32, modes: u32) -> Next
-    requires { ⌜ (at < length (now s)) × (boards ≤ 32) × (cells ≤ 32) × (modes ≤ 32) ⌝ }
-    ensures { λ r. ⌜ nextOf r ≡ opVerdict (counted len boards cells modes) (now (s .entry)) left at ⌝ }
-{
-    let v = reader::repeated_at(s, at, left, 4, 18);
-    if let Verdict::Refused(r) = v {
-        return Next::Bad(r);
-    }
-    let w = read_op(s, at);
-    let wrong = ranges::wide_wrong(len, boards, cells, modes, w);
-    if wrong != 0 {
-        return Next::Bad(Refusal::Range(at, at + wrong));
-    }
-    Next::Here(ranges::narrow(len, boards, cells, modes, w))
-}
 
 // Whether they end at a place: with the input, or at a field 05 behind the first of them.
 fn ops_done(s: &[u8], at: usize, first: usize) -> bool
@@ -68,7 +23,8 @@ fn ops_done(s: &[u8], at: usize, first: usize) -> bool
     s[at] == 5
 }
 
-// The operations up to where they end, behind a head that is judged. Each is stored where it belongs: the table is not copied for it.
+// The operations up to where they end, behind a head that is judged: from field to field by each one's own length. Each is stored where it belongs: the
+// table is not copied for it.
 fn read_ops(s: &[u8]) -> Judged
     requires { ⌜ headTest (now s) ≡ accepted tt ⌝ }
     ensures { λ r. ⌜ JudgedAs (opsVerdict (now (s .entry))) r ⌝ }
@@ -78,7 +34,8 @@ fn read_ops(s: &[u8]) -> Judged
     let mut at = first;
     while !ops_done(s, at, first) {
         let k = t.count;
-        let next = next_op(s, at, 32 - k, t.len, t.boards, t.cells, t.modes);
+        let held = reading_ops::held_at(s, at);
+        let next = reading_ops::next_op(s, at, held, 32 - k, t.len, t.boards, t.cells, t.modes);
         match next {
             Next::Bad(r) => {
                 return table::deny(r);
@@ -88,7 +45,7 @@ fn read_ops(s: &[u8]) -> Judged
                 t.count = k + 1;
             }
         }
-        at += 21;
+        at += 3 + widths::size(held);
     }
     Judged {
         verdict: Verdict::Accepted,

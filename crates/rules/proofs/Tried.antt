@@ -24,7 +24,7 @@ use Rattle.rules.specs.Judge.{opsFrom, withDecider, judge, opsOfNumbers,
 use Rattle.rules.specs.Text.{replyText, textOf, yesNoLine, marginLine, startsText}
 use Rattle.rules.specs.Words.{foldAsked, boardsAsked, valuesAsked, marginAsked, unfoldAsked, nothingAsked, questionOf, askable}
 use Rattle.rules.specs.Answers.{put, written, Answers, bytesOf, IsText, IsUnfold, marginTest, asked, BoardsFit, ValuesArrive, printed, IsPrinted, IsSaid}
-use Rattle.rules.specs.Bench.{opn, oneMode, k1, k1-bytes, k2, k3, k4, k5, k6, k7, k8, k9, k10, k10-touching, row, eachTurn, coldWarm, analyzer, sampled, hasty, hasty-first, half, unreached-half, unreached-hasty, racing, clashing}
+use Rattle.rules.specs.Bench.{opn, held, oneMode, k1, k1-bytes, k2, k3, k4, k5, k6, k7, k8, k9, k10, k10-touching, row, eachTurn, coldWarm, analyzer, sampled, hasty, hasty-first, half, unreached-half, unreached-hasty, racing, clashing, k1-held, polarised, polarised-last, already-good, good-next-cycle, decides-settling, k1-20}
 
 -- ---- members of small sets
 
@@ -146,22 +146,24 @@ k4-values q r run c i k (suc (suc j)) l y reads source = absurd (in-zero c reads
 k4-right : Right k4 2
 k4-right = record { boards = k4-boards; values = k4-values 2 }
 
+-- the only mode twice
+twice : (p b c : ℕ) (os : List Op) → IsRun (oneMode p b c os) (0 ∷ 0 ∷ [])
+unfolding has
+twice p b c os = record { some = omega arith; begins = refl; goes = go }
+  where
+    go : (k : ℕ) → suc k < 2 → In (mode (0 ∷ 0 ∷ []) (suc k)) (getD (1 ∷ []) (mode (0 ∷ 0 ∷ []) k) 0)
+    go zero h = refl
+    go (suc k) h = absurd (omega arith)
+
 k4-wrong : BoardsRightAt k4 (spaced 3) → ⊥
 unfolding BoardsRightAt has
 k4-wrong right =
-    right (0 ∷ 0 ∷ []) run4 1 0 0 1
+    right (0 ∷ 0 ∷ []) (twice 4 1 0 _) 1 0 0 1
     (record { cycle = omega arith; isOp = omega arith; inMode = refl })
     (record { cycle = omega arith; isOp = omega arith; inMode = refl })
     (λ e. omega (arith, e .1))
     (0, refl, refl)
     (omega arith)
-  where
-    run4 : IsRun k4 (0 ∷ 0 ∷ [])
-    run4 = record { some = omega arith; begins = refl; goes = go }
-      where
-        go : (k : ℕ) → suc k < 2 → In (mode (0 ∷ 0 ∷ []) (suc k)) (getD (1 ∷ []) (mode (0 ∷ 0 ∷ []) k) 0)
-        go zero h = refl
-        go (suc k) h = absurd (omega arith)
 
 -- ---- a carried value: K7 is wrong at 2, by what mode 0 wrote and mode 2 reads, past the idle mode 1
 run7 : IsRun k7 (0 ∷ 1 ∷ 2 ∷ [])
@@ -261,7 +263,7 @@ k5-better : Better k6 k5
 k5-better = record { len = refl; count = refl; each = same; firsts = λ m h. h; turns = k5-turns; decider = refl }
   where
     same : (i : ℕ) → i < 2 → OpBetter (op k6 i) (op k5 i)
-    same i h = record { start = refl; reads = refl; writes = refl; modes = refl; dur = omega arith; boards = λ m x. x }
+    same i h = record { start = refl; reads = refl; writes = refl; modes = refl; dur = omega arith; hold = omega arith; boards = λ m x. x }
 
 -- a shorter duration, a board less, a first mode less, a turn less in each mode
 all-better : Better (known 3 (3 ∷ 3 ∷ []) 3 4) (known 1 (2 ∷ 1 ∷ []) 2 3)
@@ -276,6 +278,7 @@ all-better = record { len = refl; count = refl; each = op-better; firsts = two-w
           writes = refl;
           modes = refl;
           dur = omega arith;
+          hold = omega arith;
           boards = two-within 2 3 (omega arith) (λ _. refl) (λ _. refl);
         }
     op-better (suc i) h = absurd (omega arith)
@@ -555,9 +558,9 @@ sets-full : tried (record { len = 1000; boards = 16; cells = 32; modes = 32; fir
 unfolding tried
 sets-full = refl
 
--- ---- "The longest table has 818 bytes", now 822: 32 modes, 32 operations and a decider. That such a table is accepted, and none that is longer, is
--- proved in theory/proofs/Lengths.
-longest-length : length (tableBytes (record { len = 0; boards = 0; cells = 0; modes = 0; first = 0; follow = replicate 32 0; ops = replicate 32 noOp; decider = decides 0 }))
+-- ---- "The longest table has 818 bytes", now 886: 32 modes, 32 operations with a hold, and a decider. That such a table is accepted, and none that is
+-- longer, is proved in theory/proofs/Lengths.
+longest-length : length (tableBytes (record { len = 0; boards = 0; cells = 0; modes = 0; first = 0; follow = replicate 32 0; ops = replicate 32 (held 0 0 1 0 0 0 0); decider = decides 0 }))
     ≡ longestTable
 unfolding tableBytes
 longest-length = refl
@@ -567,10 +570,16 @@ far : farthest ≡ longestTable + 3
 far = refl
 
 -- ---- a table handed over as numbers: K1's, with another length, counts, first modes, follower words, operations' numbers
+
+-- as many unset marks as there are operations, with a hold that is ignored
+unset : List ℕ → List ℕ
+unfolding joined
+unset ops = joined (λ (n : ℕ). 0 ∷ 7 ∷ []) (replicate ((length ops + 5) / 6) 0)
+
 handed : ℕ → ℕ → ℕ → ℕ → ℕ → List ℕ → List ℕ → Test
-unfolding judgeNumbers _then_
+unfolding judgeNumbers unset _then_
 handed p boards cells modes first follow ops =
-    judgeNumbers (record { len = p; boards = boards; cells = cells; modes = modes; first = first; follow = follow; ops = ops; mark = 0; decider = 0 }) then accepted tt
+    judgeNumbers (record { len = p; boards = boards; cells = cells; modes = modes; first = first; follow = follow; ops = ops; holds = unset ops; mark = 0; decider = 0 }) then accepted tt
 
 -- with other first modes, follower words and operations' numbers; with other operations' numbers
 worded : ℕ → List ℕ → List ℕ → Test
@@ -689,8 +698,8 @@ filled last os =
 
 -- where one operation more may come, and no second
 single : List ℕ → Test
-unfolding opsOfNumbers _then_
-single ns = opsOfNumbers k1 ns 1 22 then accepted tt
+unfolding opsOfNumbers unset _then_
+single ns = opsOfNumbers k1 ns (unset ns) 1 22 then accepted tt
 
 -- two rows at a period
 paired : ℕ → ℕ → ℕ → ℕ → ℕ → Test
@@ -778,9 +787,9 @@ unfolding continued
 behind-k1 = continued 43
 
 marked : ℕ → ℕ → List ℕ → Test
-unfolding judgeNumbers _then_
+unfolding judgeNumbers unset _then_
 marked mark who ops =
-    judgeNumbers (record { len = 5; boards = 1; cells = 0; modes = 1; first = 1; follow = 1 ∷ []; ops = ops; mark = mark; decider = who }) then accepted tt
+    judgeNumbers (record { len = 5; boards = 1; cells = 0; modes = 1; first = 1; follow = 1 ∷ []; ops = ops; holds = unset ops; mark = mark; decider = who }) then accepted tt
 
 fields-05 : List Test
 unfolding behind-k1 continued marked one-op
@@ -833,9 +842,9 @@ k1-decided : judge (k1-bytes ++ (5 ∷ 0 ∷ 1 ∷ 0 ∷ [])) ≡ accepted (with
 unfolding judge k1-bytes
 k1-decided = refl
 
-mark-written : map (λ (mark : ℕ). bytesOf tableBytes (judgeNumbers (record { len = 5; boards = 1; cells = 0; modes = 1; first = 1; follow = 1 ∷ []; ops = one-op; mark = mark; decider = 0 }))) (0 ∷ 1 ∷ [])
+mark-written : map (λ (mark : ℕ). bytesOf tableBytes (judgeNumbers (record { len = 5; boards = 1; cells = 0; modes = 1; first = 1; follow = 1 ∷ []; ops = one-op; holds = unset one-op; mark = mark; decider = 0 }))) (0 ∷ 1 ∷ [])
     ≡ accepted k1-bytes ∷ accepted (k1-bytes ++ (5 ∷ 0 ∷ 1 ∷ 0 ∷ [])) ∷ []
-unfolding bytesOf tableBytes judgeNumbers one-op k1-bytes
+unfolding bytesOf tableBytes judgeNumbers one-op unset k1-bytes
 mark-written = refl
 
 -- EARLY, on the tables of the bench
@@ -876,7 +885,7 @@ unfolding tried
 no-op-05 = refl
 
 -- handed over, too
-hasty-handed : judgeNumbers (record { len = 6; boards = 3; cells = 1; modes = 2; first = 1; follow = 3 ∷ 3 ∷ []; ops = 0 ∷ 2 ∷ 1 ∷ 0 ∷ 0 ∷ 3 ∷ 1 ∷ 2 ∷ 2 ∷ 0 ∷ 0 ∷ 1 ∷ []; mark = 1; decider = 0 })
+hasty-handed : judgeNumbers (record { len = 6; boards = 3; cells = 1; modes = 2; first = 1; follow = 3 ∷ 3 ∷ []; ops = 0 ∷ 2 ∷ 1 ∷ 0 ∷ 0 ∷ 3 ∷ 1 ∷ 2 ∷ 2 ∷ 0 ∷ 0 ∷ 1 ∷ []; holds = 0 ∷ 0 ∷ 0 ∷ 0 ∷ []; mark = 1; decider = 0 })
     ≡ refused 10 0 1
 unfolding judgeNumbers
 hasty-handed = refl
@@ -905,6 +914,214 @@ every-mode modes =
 every-mode-told : every-mode 4294967295 ∷ every-mode 2147483647 ∷ [] ≡ good ∷ refused 10 1 1 ∷ []
 unfolding every-mode
 every-mode-told = refl
+
+-- ---- document 02, No. 9, as one list: an operation's field with a hold
+
+-- K1 with a field of 20 bytes for its operation, and with two operations by their holds
+twenty : ℕ → ℕ → Test
+unfolding judge _then_
+twenty d h = judge (k1-20 d h) then accepted tt
+
+-- K1's numbers, with these marks and holds, and other numbers of operations
+settled : List ℕ → List ℕ → Test
+unfolding judgeNumbers _then_
+settled ops holds =
+    judgeNumbers (record { len = 5; boards = 1; cells = 0; modes = 1; first = 1; follow = 1 ∷ []; ops = ops; holds = holds; mark = 0; decider = 0 }) then accepted tt
+
+-- the operation behind one of 20 bytes
+second : Op → Test
+unfolding tried
+second o = tried (oneMode 9 1 1 (held 1 3 1 1 0 0 1 ∷ o ∷ []))
+
+-- where one operation more may come, and no second
+single-held : List ℕ → List ℕ → Test
+unfolding opsOfNumbers _then_
+single-held ns hs = opsOfNumbers k1 ns hs 1 22 then accepted tt
+
+fields-20 : List Test
+unfolding twenty settled second single-held tried continued one-op
+fields-20 =
+    -- held to p, by a tick less, by a tick more; hold 0; the duration before the hold, which is past p as well or 0
+    twenty 3 1
+    ∷ twenty 2 1
+    ∷ twenty 3 2
+    ∷ twenty 3 0
+    ∷ twenty 3 255
+    ∷ twenty 5 0
+    ∷ twenty 5 1
+    ∷ twenty 0 0
+    ∷ twenty 0 1
+    -- no wrap at 16 bits; a hold of two bytes that is in time
+    ∷ tried (oneMode 5 1 0 (held 1 3 65535 1 0 0 1 ∷ []))
+    ∷ tried (oneMode 5 1 0 (held 65535 1 1 1 0 0 1 ∷ []))
+    ∷ tried (oneMode 1000 1 0 (held 1 3 996 1 0 0 1 ∷ []))
+    -- "SIZE now admits 18 and 20"; the length before a value that is cut; a field that is cut by a byte, and by two
+    ∷ continued 22 (4 ∷ 0 ∷ 19 ∷ [])
+    ∷ continued 22 (4 ∷ 0 ∷ 21 ∷ [])
+    ∷ continued 22 (4 ∷ 1 ∷ 20 ∷ [])
+    ∷ continued 22 (4 ∷ 0 ∷ 20 ∷ [])
+    ∷ continued 22 (4 ∷ 0 ∷ 20 ∷ replicate 19 0)
+    ∷ continued 22 (4 ∷ 0 ∷ 20 ∷ replicate 18 0)
+    -- each number of a second field, with all behind it wrong too: it begins at 45, behind one of 20 bytes
+    ∷ second (held 5 0 0 0 2 2 0)
+    ∷ second (held 5 1 9 0 2 2 0)
+    ∷ second (held 5 1 1 0 2 2 0)
+    ∷ second (held 5 1 1 1 2 2 0)
+    ∷ second (held 5 1 1 1 0 2 0)
+    ∷ second (held 5 1 1 1 0 0 0)
+    ∷ second (opn 5 1 0 2 2 0)
+    ∷ second (opn 5 1 1 0 0 0)
+    -- the field of the decider behind it; the 20-byte field behind one of 18, and a 33rd's place is by both
+    ∷ tried (withDecider (oneMode 5 1 0 (held 1 3 1 1 0 0 1 ∷ [])) (decides 1))
+    ∷ tried (oneMode 9 1 1 (opn 1 3 1 0 0 1 ∷ held 5 1 9 1 0 0 1 ∷ []))
+    ∷ []
+
+fields-20-told : fields-20
+    ≡ (good ∷ good ∷ replicate 3 (range 22 29))
+    ++ replicate 4 (range 22 27)
+    ++ (range 22 29 ∷ range 22 27 ∷ good ∷ [])
+    ++ (replicate 3 (refused 3 22 0) ++ replicate 3 (refused 1 22 0))
+    ++ map (range 45) (50 ∷ 52 ∷ 54 ∷ 56 ∷ 60 ∷ 64 ∷ 52 ∷ 62 ∷ [])
+    ++ (range 45 48 ∷ range 43 50 ∷ [])
+unfolding fields-20
+fields-20-told = refl
+
+holds-handed : List Test
+unfolding settled single-held one-op
+holds-handed =
+    -- unmarked, its number is ignored; any other mark is one; hold 0 marked, a hold past p, one too large for its field though its low bits would do
+    settled one-op (0 ∷ 65536 ∷ [])
+    ∷ settled one-op (1 ∷ 1 ∷ [])
+    ∷ settled one-op (256 ∷ 1 ∷ [])
+    ∷ settled one-op (1 ∷ 0 ∷ [])
+    ∷ settled one-op (1 ∷ 2 ∷ [])
+    ∷ settled one-op (1 ∷ 65537 ∷ [])
+    -- the start before the duration, and that before the hold
+    ∷ settled (65536 ∷ 5 ∷ 1 ∷ 0 ∷ 0 ∷ 1 ∷ []) (1 ∷ 0 ∷ [])
+    ∷ settled (1 ∷ 5 ∷ 1 ∷ 0 ∷ 0 ∷ 1 ∷ []) (1 ∷ 0 ∷ [])
+    -- a mark that is missing, a hold that is missing, only these, and none of all; with ranges that are wrong as well
+    ∷ settled one-op []
+    ∷ settled one-op (0 ∷ [])
+    ∷ settled (1 ∷ 9 ∷ 0 ∷ 0 ∷ 0 ∷ 1 ∷ []) (1 ∷ [])
+    ∷ settled [] (0 ∷ 0 ∷ [])
+    ∷ settled [] (1 ∷ [])
+    ∷ settled (1 ∷ 3 ∷ 1 ∷ 0 ∷ 0 ∷ []) (0 ∷ 0 ∷ [])
+    ∷ settled [] []
+    -- the place of a second operation behind one that is marked, and behind one that is not; of one that has only a mark; MANY, whichever goes on
+    ∷ settled (one-op ++ (1 ∷ 5 ∷ 1 ∷ 0 ∷ 0 ∷ 1 ∷ [])) (1 ∷ 1 ∷ 0 ∷ 0 ∷ [])
+    ∷ settled (one-op ++ (1 ∷ 3 ∷ 2 ∷ 0 ∷ 0 ∷ 1 ∷ [])) (0 ∷ 1 ∷ 1 ∷ 1 ∷ [])
+    ∷ settled (one-op ++ one-op) (1 ∷ 1 ∷ 1 ∷ [])
+    ∷ settled one-op (1 ∷ 1 ∷ 0 ∷ [])
+    ∷ single-held one-op (1 ∷ 1 ∷ 0 ∷ [])
+    ∷ single-held (one-op ++ (1 ∷ [])) (0 ∷ 1 ∷ [])
+    ∷ []
+
+holds-told : holds-handed
+    ≡ (good ∷ good ∷ good ∷ replicate 3 (range 22 29))
+    ++ (range 22 25 ∷ range 22 27 ∷ [])
+    ++ (replicate 6 (refused 1 22 0) ++ (refused 2 22 0 ∷ []))
+    ++ (range 45 50 ∷ range 43 52 ∷ refused 1 45 0 ∷ refused 1 45 0 ∷ refused 5 45 0 ∷ refused 5 43 0 ∷ [])
+unfolding holds-handed
+holds-told = refl
+
+-- a hold is read, and written exactly where it is marked; forms may be mixed
+k1-read : judge (k1-20 3 1) ≡ accepted (k1-held 1)
+unfolding judge
+k1-read = refl
+
+hold-written : map (λ (mark : ℕ). bytesOf tableBytes (judgeNumbers (record { len = 5; boards = 1; cells = 0; modes = 1; first = 1; follow = 1 ∷ []; ops = one-op; holds = mark ∷ 1 ∷ []; mark = 0; decider = 0 }))) (0 ∷ 1 ∷ [])
+    ≡ accepted k1-bytes ∷ accepted (k1-20 3 1) ∷ []
+unfolding bytesOf tableBytes judgeNumbers one-op k1-bytes
+hold-written = refl
+
+mixed : Table
+mixed = oneMode 9 1 1 (opn 0 1 1 0 0 1 ∷ held 1 1 2 1 1 0 1 ∷ opn 4 1 1 0 1 1 ∷ [])
+
+mixed-read : judge (tableBytes mixed) ≡ accepted mixed
+unfolding judge tableBytes mixed
+mixed-read = refl
+
+-- CLASH by both holds; neither RACE nor EARLY by any; on the tables of the bench
+settling-told : map tried (polarised 2 ∷ polarised-last 2 ∷ polarised 1 ∷ polarised-last 1 ∷ already-good ∷ good-next-cycle ∷ decides-settling ∷ [])
+    ≡ refused 6 0 1 ∷ refused 6 0 1 ∷ replicate 5 good
+unfolding tried
+settling-told = refl
+
+-- as definitions: these clash, and do not race
+polarised-clash : Clash (op (polarised 2) 0) (op (polarised 2) 1) × Clash (op (polarised-last 2) 0) (op (polarised-last 2) 1)
+unfolding has
+polarised-clash = (
+  record { board = (0, refl, refl); mode = (0, refl, refl); lap = (omega arith, omega arith) },
+  record { board = (0, refl, refl); mode = (0, refl, refl); lap = (omega arith, omega arith) },
+)
+
+good-no-race : Race (op already-good 0) (op already-good 1) → ⊥
+good-no-race x = omega (arith, x .lap .1)
+
+-- the margin is as it was
+held-margins : map (λ (q : ℕ). margin (k1-held 1) 0 0 1 q) (2 ∷ 3 ∷ 4 ∷ []) ≡ negsuc 0 ∷ pos 0 ∷ pos 1 ∷ []
+unfolding margin
+held-margins = refl
+
+-- two cycles of K1 with hold 1 overlap on their board at 3, whichever of them is named first
+held-wrong : (k l : ℕ) → k + l ≡ 1 → BoardsRightAt (k1-held 1) (spaced 3) → ⊥
+unfolding BoardsRightAt has
+held-wrong k l one right =
+    right (0 ∷ 0 ∷ []) (twice 5 1 0 _) 0 k 0 l
+    (record { cycle = omega arith; isOp = omega arith; inMode = in-each k (omega arith) })
+    (record { cycle = omega arith; isOp = omega arith; inMode = in-each l (omega arith) })
+    (λ e. omega (arith, e .1)) (0, refl, refl) (omega arith, omega arith)
+  where
+    in-each : (m : ℕ) → m < 2 → In (mode (0 ∷ 0 ∷ []) m) 1
+    in-each zero h = refl
+    in-each (suc zero) h = refl
+    in-each (suc (suc m)) h = absurd (omega arith)
+
+-- "though the value is already good": it is the last write that ended at or before the reader's start, though the board settles
+good-source : Source already-good (0 ∷ []) 0 (plainStart already-good 1 0) 0 0
+unfolding has
+good-source =
+    record {
+      runs = record { cycle = omega arith; isOp = omega arith; inMode = refl };
+      writes = refl;
+      before = omega arith;
+      last = go;
+    }
+  where
+    go : (u m : ℕ) → Runs already-good (0 ∷ []) m u → In 0 (op already-good u .writes) → plainEnd already-good u m ≤ plainStart already-good 1 0
+        → plainEnd already-good u m ≤ plainEnd already-good 0 0
+    go zero zero x w h = omega arith
+    go zero (suc m) x w h = absurd (omega (arith, x .cycle))
+    go (suc zero) m x w h = absurd (false≢true w)
+    go (suc (suc u)) m x w h = absurd (false≢true w)
+
+-- and it arrives by its duration, a cycle later
+good-values : ValuesRightAt good-next-cycle (spaced 4)
+unfolding ValuesRightAt
+good-values r run c i k zero l y reads source = absurd (in-zero c reads)
+good-values r run c zero k (suc zero) l y reads source = omega (arith, source .before)
+good-values r run c (suc zero) k (suc zero) l y reads source = absurd (in-zero c (source .writes))
+good-values r run c (suc (suc i)) k (suc zero) l y reads source = absurd (in-zero c (source .writes))
+good-values r run c i k (suc (suc j)) l y reads source = absurd (in-zero c reads)
+
+-- the decider has ended where its board still settles
+settling-decided : DecidedBy decides-settling 0
+settling-decided = record { isOp = omega arith; always = both-modes decides-settling (op decides-settling 0) refl refl; later = go }
+  where
+    go : (i : ℕ) → i < 2 → (Always decides-settling (op decides-settling i) → ⊥) → 2 ≤ op decides-settling i .start
+    go zero h n = absurd (n (both-modes decides-settling (op decides-settling 0) refl refl))
+    go (suc zero) h n = omega arith
+    go (suc (suc i)) h n = absurd (omega arith)
+
+held-not : Better (k1-held 0) (k1-held 1) → ⊥
+held-not x = omega (arith, x .each 0 (omega arith) .hold)
+
+held-better : Better (k1-held 1) (k1-held 0)
+held-better = record { len = refl; count = refl; each = less; firsts = λ m h. h; turns = λ a m h. h; decider = refl }
+  where
+    less : (i : ℕ) → i < 1 → OpBetter (op (k1-held 1) i) (op (k1-held 0) i)
+    less zero h = record { start = refl; reads = refl; writes = refl; modes = refl; dur = omega arith; hold = omega arith; boards = λ m x. x }
+    less (suc i) h = absurd (omega arith)
 
 -- ---- a lent buffer: "K1 into 11 bytes: refused 8 12 0; into 12 accepted"; the rest of a longer one stays
 k1-no-room : put (replyBytes (replyOf k1 3)) (replicate 11 9) ≡ record { answer = refused 8 12 0; buffer = replicate 11 9 }

@@ -1,5 +1,5 @@
 -- Document 01, "Bench tables": K1 to K10, those marked to be proved, each with its whole answer, as one list; and a list of tables with a decider,
--- for document 02, No. 4.
+-- for document 02, No. 4, and of tables with a hold, for No. 9.
 -- Assumes nothing.
 use Prim.Native.Nat.{ℕ}
 use mathlib.Core.Bool.{Bool, true, false}
@@ -11,9 +11,12 @@ use Rattle.rules.specs.Verdicts.{Verdict, accepted, refused}
 use Rattle.rules.specs.Bytes.{tableBytes}
 use Rattle.rules.specs.Answers.{ReplyTo, IsMargin, BoardsFit, ValuesArrive}
 
--- ---- how they are written down: start, duration, boards, reads, writes, modes
+-- ---- how they are written down: start, duration, boards, reads, writes, modes; and with a hold behind the duration
 abbrev pub opn : ℕ → ℕ → ℕ → ℕ → ℕ → ℕ → Op
-opn t d b r w m = record { start = t; dur = d; boards = b; reads = r; writes = w; modes = m }
+opn t d b r w m = record { start = t; dur = d; hold = 0; boards = b; reads = r; writes = w; modes = m }
+
+abbrev pub held : ℕ → ℕ → ℕ → ℕ → ℕ → ℕ → ℕ → Op
+held t d h b r w m = record { start = t; dur = d; hold = h; boards = b; reads = r; writes = w; modes = m }
 
 -- "One mode that follows itself unless said": length, boards, cells, operations
 abbrev pub oneMode : ℕ → ℕ → ℕ → List Op → Table
@@ -220,4 +223,65 @@ deciderBench =
     ∷ margins (tableBytes hasty) 3 3 0 0 (refused 10 0 1)
     ∷ fits (tableBytes hasty) 0 (refused 10 0 1)
     ∷ arrives (tableBytes hasty) 0 (refused 10 0 1)
+    ∷ []
+
+-- ---- document 02, No. 9: tables with a hold
+
+-- K1 with a hold
+abbrev pub k1-held : ℕ → Table
+k1-held h = oneMode 5 1 0 (held 1 3 h 1 0 0 1 ∷ [])
+
+-- "After the probe is polarised, its board can't be used for some ticks": p 6; [0,2) on board 0 with this hold, and [3,4) on board 0, in either order
+abbrev pub polarised : ℕ → Table
+polarised h = oneMode 6 1 0 (held 0 2 h 1 0 0 1 ∷ opn 3 1 1 0 0 1 ∷ [])
+
+abbrev pub polarised-last : ℕ → Table
+polarised-last h = oneMode 6 1 0 (opn 3 1 1 0 0 1 ∷ held 0 2 h 1 0 0 1 ∷ [])
+
+-- "though the value is already good": [0,2) board 0 with hold 2 writes c0; [2,3) board 1 reads it; and [3,4) board 0 with hold 2 writes c0; [0,1)
+-- board 1 reads it, a cycle later
+abbrev pub already-good : Table
+already-good = oneMode 6 2 1 (held 0 2 2 1 0 1 1 ∷ opn 2 1 2 1 0 1 ∷ [])
+
+abbrev pub good-next-cycle : Table
+good-next-cycle = oneMode 6 2 1 (held 3 1 2 1 0 1 1 ∷ opn 0 1 2 1 0 1 ∷ [])
+
+-- the decider has ended, and its board still settles
+abbrev pub decides-settling : Table
+decides-settling = coldWarm eachTurn (held 0 2 2 1 0 0 3 ∷ opn 2 1 2 0 0 1 ∷ []) (decides 0)
+
+-- K1's bytes with a field of 20 bytes: this duration and this hold
+abbrev pub k1-20 : ℕ → ℕ → List ℕ
+k1-20 d h =
+    1 ∷ 0 ∷ 2 ∷ 0 ∷ 5 ∷ 2 ∷ 0 ∷ 3 ∷ 1 ∷ 0 ∷ 1 ∷ 3 ∷ 0 ∷ 8 ∷ 0 ∷ 0 ∷ 0 ∷ 1 ∷ 0 ∷ 0 ∷ 0 ∷ 1 ∷ 4 ∷ 0 ∷ 20 ∷ 0 ∷ 1 ∷ 0 ∷ d ∷ 0 ∷ h ∷ 0 ∷ 1
+    ∷ 0 ∷ 0 ∷ 0 ∷ 0 ∷ 0 ∷ 0 ∷ 0 ∷ 0 ∷ 0 ∷ 0 ∷ 0 ∷ 1 ∷ []
+
+-- and with a field of 19
+abbrev pub k1-19 : List ℕ
+k1-19 =
+    1 ∷ 0 ∷ 2 ∷ 0 ∷ 5 ∷ 2 ∷ 0 ∷ 3 ∷ 1 ∷ 0 ∷ 1 ∷ 3 ∷ 0 ∷ 8 ∷ 0 ∷ 0 ∷ 0 ∷ 1 ∷ 0 ∷ 0 ∷ 0 ∷ 1 ∷ 4 ∷ 0 ∷ 19 ∷ 0 ∷ 1 ∷ 0 ∷ 3 ∷ 0 ∷ 1 ∷ 0
+    ∷ 0 ∷ 0 ∷ 0 ∷ 0 ∷ 0 ∷ 0 ∷ 0 ∷ 0 ∷ 0 ∷ 0 ∷ 1 ∷ 0 ∷ []
+
+-- K1 with hold 1, and its margins as before; holds that clash, and that touch; values taken while the board settles, and how long it takes then;
+-- a decider's board that settles; hold 0 in 20 bytes, a hold past p, a duration past p before it, 19 bytes
+unfoldable pub holdBench : List Case
+unfolding tableBytes
+holdBench =
+    replies (k1-20 3 1) (reply 4 (row 1 0 ∷ []))
+    ∷ table (k1-held 1) (reply 4 (row 1 0 ∷ []))
+    ∷ margins (k1-20 3 1) 0 0 1 3 (accepted (pos 0))
+    ∷ margins (k1-20 3 1) 0 0 1 2 (accepted (negsuc 0))
+    ∷ fits (k1-20 3 1) 3 (accepted false)
+    ∷ arrives (k1-20 3 1) 3 (accepted true)
+    ∷ table (polarised 2) (refused 6 0 1)
+    ∷ table (polarised-last 2) (refused 6 0 1)
+    ∷ table (polarised 1) (reply 4 (row 0 0 ∷ row 3 0 ∷ []))
+    ∷ table already-good (reply 4 (row 0 0 ∷ row 2 0 ∷ []))
+    ∷ table good-next-cycle (reply 4 (row 3 0 ∷ row 0 0 ∷ []))
+    ∷ table decides-settling (reply 4 (row 0 0 ∷ row 2 0 ∷ []))
+    ∷ replies (k1-20 3 0) (refused 4 22 29)
+    ∷ replies (k1-20 3 2) (refused 4 22 29)
+    ∷ replies (k1-20 5 0) (refused 4 22 27)
+    ∷ replies (k1-20 5 2) (refused 4 22 27)
+    ∷ replies k1-19 (refused 3 22 0)
     ∷ []

@@ -6,13 +6,14 @@ use Rattle.rules.specs.Sets.{Within}
 use Rattle.rules.specs.Table.{Op, Table, nops, op, followers}
 
 -- "the same starts, cells read, cells written and mode sets. Let no step of the second last longer than in the first or use a board it did
--- not use there": o is the first table's step, u the second's.
+-- not use there": o is the first table's step, u the second's; with document 02, No. 9, "the second table has no longer holds either".
 pub record OpBetter (o u : Op) : Type 0 where
   pub start : u .start ≡ o .start
   pub reads : u .reads ≡ o .reads
   pub writes : u .writes ≡ o .writes
   pub modes : u .modes ≡ o .modes
   pub dur : u .dur ≤ o .dur
+  pub hold : u .hold ≤ o .hold
   pub boards : Within (u .boards) (o .boards)
 
 -- "two accepted tables with the same length and, step for step, ..; and let the second permit no turn and no first mode that the first

@@ -1,9 +1,9 @@
 -- Document 01, "Numbers of refusal": the verdict on a table's bytes, on a table handed over as numbers, and on a reply's bytes. Document 02,
--- No. 7: which number of a field RANGE blames; No. 4: the decider's field, and EARLY.
+-- No. 7: which number of a field RANGE blames; No. 4: the decider's field, and EARLY; No. 9: an operation's field with a hold.
 -- Assumes nothing.
 use Prim.Native.Nat.{ℕ, zero, suc, _+_, _-_, _*_, _^_}
-use mathlib.Core.Bool.{Bool, cond, not, _&&_, _||_}
-use mathlib.Core.List.{List, [], _∷_, map}
+use mathlib.Core.Bool.{Bool, true, false, cond, not, _&&_, _||_}
+use mathlib.Core.List.{List, [], _∷_, _++_, map}
 use lib.Dec.{leb, ltb, eqb}
 use lib.Bits.{bitOr}
 use lib.ListN.{length, getD, drop}
@@ -11,7 +11,7 @@ use Rattle.rules.specs.Sets.{shares, overlaps}
 use Rattle.rules.specs.Table.{Op, Decider, nobody, decides, Table, nops, op, endOf, heldTo}
 use Rattle.rules.specs.Rows.{Ticks, Row, Reply, ticks, cycles, unfoldAt}
 use Rattle.rules.specs.Verdicts.{Verdict, accepted, refused, SHORT, ORDER, SIZE, RANGE, MANY, CLASH, RACE, EARLY, Test, refuseIf, _then_, onwards, more, each}
-use Rattle.rules.specs.Bytes.{num8, num16, num32, words, opAt, rowAt}
+use Rattle.rules.specs.Bytes.{num8, num16, num32, words, joined, opSize, opBytes, heldAt, opAt, rowAt}
 
 -- ---- one field. "Within one: header complete, tag due, not a 33rd, length, value complete, ranges."
 
@@ -67,15 +67,16 @@ repeatTest s at left tag size wrong =
 abbrev pub atEnd : List ℕ → ℕ → Bool
 atEnd s at = leb (length s) at
 
--- the repeated fields from a place to where they end, when `left` more may come
-module _ {A : Type 0} (ends : List ℕ → ℕ → Bool) (tag size : ℕ) (wrong : A → ℕ) (value : List ℕ → ℕ → A) where
+-- the repeated fields from a place to where they end, when `left` more may come. At a place in the input: how long the value of a field there has to
+-- be, which of its numbers is wrong first, and what it is.
+module _ {A : Type 0} (ends : List ℕ → ℕ → Bool) (tag : ℕ) (size wrong : List ℕ → ℕ → ℕ) (value : List ℕ → ℕ → A) where
   unfoldable pub fieldsFrom : List ℕ → ℕ → ℕ → Verdict (List A)
   unfolding repeatTest _then_ more
   fieldsFrom s zero at =
-      cond (ends s at) (accepted []) (repeatTest s at 0 tag size (wrong (value s at)) then accepted [])
+      cond (ends s at) (accepted []) (repeatTest s at 0 tag (size s at) (wrong s at) then accepted [])
   fieldsFrom s (suc left) at =
       cond (ends s at) (accepted [])
-      (repeatTest s at (suc left) tag size (wrong (value s at)) then more (value s at) (fieldsFrom s left (at + 3 + size)))
+      (repeatTest s at (suc left) tag (size s at) (wrong s at) then more (value s at) (fieldsFrom s left (at + 3 + size s at)))
 
 -- ---- ranges: the numbers of a field one after the other, and which of them is wrong first
 
@@ -132,19 +133,30 @@ setsWrong n ss = firstWrong (setRanges n ss)
 -- field 04, with the length and the counts of T: "a duration d of at least 1, with t + d at most p; a set of boards, not empty; cells it reads;
 -- cells it writes ..; a set of modes, not empty". "An operation that ends after p blames its duration": a start has no range of its own, and is
 -- only asked to fit its field, as it always does in bytes.
-abbrev pub opRanges : Table → Op → List Number
-opRanges T o =
-    number 2 (o .start) (λ t. ltb t 65536)
-    ∷ number 2 (o .dur) (λ d. leb 1 d && leb (o .start + d) (T .len))
-    ∷ number 2 (o .boards) (setOk (T .boards))
+abbrev pub dateRanges : Table → Op → List Number
+dateRanges T o = number 2 (o .start) (λ t. ltb t 65536) ∷ number 2 (o .dur) (λ d. leb 1 d && leb (o .start + d) (T .len)) ∷ []
+
+-- document 02, No. 9: "a 20-byte field with hold 0 is RANGE and blames the hold; so does a hold that alone runs past p": one behind a duration that
+-- does not
+abbrev pub holdRanges : Table → Bool → Op → List Number
+holdRanges T false o = []
+holdRanges T true o = number 2 (o .hold) (λ h. leb 1 h && leb (o .start + o .dur + h) (T .len)) ∷ []
+
+abbrev pub usedRanges : Table → Op → List Number
+usedRanges T o =
+    number 2 (o .boards) (setOk (T .boards))
     ∷ number 4 (o .reads) (λ r. ltb r (2 ^ T .cells))
     ∷ number 4 (o .writes) (λ w. ltb w (2 ^ T .cells))
     ∷ number 4 (o .modes) (setOk (T .modes))
     ∷ []
 
-unfoldable pub opWrong : Table → Op → ℕ
+-- an operation of either form: "a 16-bit hold after the duration", or none
+abbrev pub opRanges : Table → Bool → Op → List Number
+opRanges T held o = dateRanges T o ++ (holdRanges T held o ++ usedRanges T o)
+
+unfoldable pub opWrong : Table → Bool → Op → ℕ
 unfolding firstWrong setOk
-opWrong T o = firstWrong (opRanges T o)
+opWrong T held o = firstWrong (opRanges T held o)
 
 -- field 05, behind n operations: "a number that is no operation is RANGE"
 abbrev pub deciderRanges : ℕ → Decider → List Number
@@ -250,9 +262,13 @@ withDecider T who =
 abbrev pub opsPlace : ℕ → ℕ
 opsPlace modes = 18 + 4 * modes
 
--- and where they end: the field of each has 21 bytes
+-- and where they end: behind the bytes of each, by its own form
+unfoldable pub opsSize : List Op → ℕ
+unfolding joined opBytes
+opsSize os = length (joined opBytes os)
+
 abbrev pub opsEnd : Table → ℕ
-opsEnd T = opsPlace (T .modes) + 21 * nops T
+opsEnd T = opsPlace (T .modes) + opsSize (T .ops)
 
 -- "Table fields, in this order and no other"
 unfoldable pub headTest : List ℕ → Test
@@ -268,10 +284,18 @@ headTest s =
 unfoldable pub opsDone : Table → List ℕ → ℕ → Bool
 opsDone T s at = atEnd s at || (ltb (opsPlace (T .modes)) at && eqb (num8 s at) 5)
 
+-- document 02, No. 9: "SIZE now admits 18 and 20": what has neither length has not the one it would need
+abbrev pub sizeAt : List ℕ → ℕ → ℕ
+sizeAt s at = opSize (heldAt s at)
+
+-- which number of the operation at a place is wrong first
+abbrev pub wrongAt : Table → List ℕ → ℕ → ℕ
+wrongAt T s at = opWrong T (heldAt s at) (opAt s at)
+
 -- the operations' fields from a place on, when so many more may come
 unfoldable pub opsFrom : Table → List ℕ → ℕ → ℕ → Verdict (List Op)
-unfolding opsDone fieldsFrom opWrong
-opsFrom T = fieldsFrom (opsDone T) 4 18 (opWrong T) opAt
+unfolding opsDone fieldsFrom opWrong opAt
+opsFrom T = fieldsFrom (opsDone T) 4 sizeAt (wrongAt T) opAt
 
 -- "a field after 05 is ORDER": at a place behind it nothing is due, but a header is read before its tag is looked at
 unfoldable pub nothingDue : List ℕ → ℕ → Test
@@ -290,7 +314,7 @@ deciderTest s at n =
 
 -- the decider's field behind a table's operations, and then the table as a whole
 unfoldable pub judgeBehind : List ℕ → Table → Verdict Table
-unfolding deciderTest judgeWhole _then_
+unfolding deciderTest judgeWhole opsSize _then_
 judgeBehind s T = deciderTest s (opsEnd T) (nops T) then judgeWhole (withDecider T (deciderAt s (opsEnd T)))
 
 unfoldable pub judge : List ℕ → Verdict Table
@@ -299,8 +323,9 @@ judge s =
     headTest s
     then onwards (opsFrom (headOf s) s 32 (opsPlace (headOf s .modes))) (λ os. judgeBehind s (withOps (headOf s) os))
 
--- ---- a table handed over as numbers: "six for each operation, in layout order"; the decider with a mark that says whether it is there, 0 where it
--- is not
+-- ---- a table handed over as numbers: "six for each operation, in layout order". "Where a request adds an optional field or number, it is handed over
+-- beside these with a mark that says whether it is there, and is written exactly when it is": for each operation a mark and its hold, and the
+-- decider with its mark. A mark is 0 where there is none.
 pub record Numbers : Type 0 where
   pub len : ℕ
   pub boards : ℕ
@@ -309,15 +334,21 @@ pub record Numbers : Type 0 where
   pub first : ℕ
   pub follow : List ℕ
   pub ops : List ℕ
+  pub holds : List ℕ
   pub mark : ℕ
   pub decider : ℕ
 
--- the operation whose six numbers stand first
-abbrev pub opOfNumbers : List ℕ → Op
-opOfNumbers ns =
+-- whether the operation whose mark stands first has a hold
+abbrev pub markedOf : List ℕ → Bool
+markedOf hs = not (eqb (getD hs 0 0) 0)
+
+-- the operation whose six numbers stand first, and its mark and its hold; with the mark unset the hold is ignored
+abbrev pub opOfNumbers : List ℕ → List ℕ → Op
+opOfNumbers ns hs =
     record {
       start = getD ns 0 0;
       dur = getD ns 1 0;
+      hold = cond (markedOf hs) (getD hs 1 0) 0;
       boards = getD ns 2 0;
       reads = getD ns 3 0;
       writes = getD ns 4 0;
@@ -342,6 +373,10 @@ headOfNumbers N =
 abbrev pub deciderOf : Numbers → Decider
 deciderOf N = cond (eqb (N .mark) 0) nobody (decides (N .decider))
 
+-- no number of an operation is left, neither of the six nor a mark or a hold
+abbrev pub noneLeft : List ℕ → List ℕ → Bool
+noneLeft ns hs = eqb (length ns + length hs) 0
+
 -- "judged as if first written in this layout and then read": each field at the offset that it would have. "A wrong count of follower words
 -- is SIZE, a number too large for its field RANGE, an operation with numbers missing SHORT." A number that is too large for its field is
 -- outside its range too, since every range fits its field, and a start is tested for that alone; RANGE blames it at the place that it would
@@ -353,22 +388,23 @@ numbersTest N =
     then ranged (countsWrong (N .boards) (N .cells) (N .modes)) 5
     then refuseIf (not (eqb (length (N .follow)) (N .modes))) SIZE 11 0
     then ranged (setsWrong (N .modes) (N .first ∷ N .follow)) 11
-    then refuseIf (eqb (length (N .ops)) 0) ORDER (opsPlace (N .modes)) 0
+    then refuseIf (noneLeft (N .ops) (N .holds)) ORDER (opsPlace (N .modes)) 0
 
--- the operations' numbers, when `left` more operations may come and the next would be written at a place
-unfoldable pub opsOfNumbers : Table → List ℕ → ℕ → ℕ → Verdict (List Op)
+-- the operations' numbers, and their marks and holds, when `left` more operations may come and the next would be written at a place. One whose mark or
+-- hold is missing, or that has only these, is an operation with numbers missing too.
+unfoldable pub opsOfNumbers : Table → List ℕ → List ℕ → ℕ → ℕ → Verdict (List Op)
 unfolding notMany refuseIf ranged opWrong _then_ more
-opsOfNumbers T ns zero at = cond (eqb (length ns) 0) (accepted []) (notMany at 0 then accepted [])
-opsOfNumbers T ns (suc left) at =
-    cond (eqb (length ns) 0) (accepted [])
-    (refuseIf (ltb (length ns) 6) SHORT at 0
-    then ranged (opWrong T (opOfNumbers ns)) at
-    then more (opOfNumbers ns) (opsOfNumbers T (drop 6 ns) left (at + 21)))
+opsOfNumbers T ns hs zero at = cond (noneLeft ns hs) (accepted []) (notMany at 0 then accepted [])
+opsOfNumbers T ns hs (suc left) at =
+    cond (noneLeft ns hs) (accepted [])
+    (refuseIf (ltb (length ns) 6 || ltb (length hs) 2) SHORT at 0
+    then ranged (opWrong T (markedOf hs) (opOfNumbers ns hs)) at
+    then more (opOfNumbers ns hs) (opsOfNumbers T (drop 6 ns) (drop 2 hs) left (at + 3 + opSize (markedOf hs))))
 
 -- the decider, at the place that its field would have, and then the table as a whole. Every operation's number fits a byte, so a number that is too
 -- large for it is none.
 unfoldable pub judgeDecider : Decider → Table → Verdict Table
-unfolding ranged deciderWrong judgeWhole _then_
+unfolding ranged deciderWrong judgeWhole opsSize _then_
 judgeDecider who T = ranged (deciderWrong (nops T) who) (opsEnd T) then judgeWhole (withDecider T who)
 
 unfoldable pub judgeNumbers : Numbers → Verdict Table
@@ -376,7 +412,7 @@ unfolding numbersTest opsOfNumbers judgeDecider onwards _then_
 judgeNumbers N =
     numbersTest N
     then onwards
-    (opsOfNumbers (headOfNumbers N) (N .ops) 32 (opsPlace (N .modes)))
+    (opsOfNumbers (headOfNumbers N) (N .ops) (N .holds) 32 (opsPlace (N .modes)))
     (λ os. judgeDecider (deciderOf N) (withOps (headOfNumbers N) os))
 
 -- ---- a reply's bytes: "the period is 1 to 1000, each folded start is below it, each unfolded start is at most 999, and there are 1 to 32
@@ -397,7 +433,7 @@ replyTest s = fieldTest s 0 17 2 (lenWrong (num16 s 3)) then needed s 5
 
 unfoldable pub rowsFrom : Ticks → List ℕ → ℕ → ℕ → Verdict (List Row)
 unfolding fieldsFrom rowWrong
-rowsFrom q = fieldsFrom atEnd 18 4 (rowWrong q) rowAt
+rowsFrom q = fieldsFrom atEnd 18 (λ s at. 4) (λ s at. rowWrong q (rowAt s at)) rowAt
 
 unfoldable pub judgeReply : List ℕ → Verdict Reply
 unfolding replyTest rowsFrom onwards _then_

@@ -1,4 +1,4 @@
--- Document 01, "The table": what a table is, and when it is accepted; document 02, No. 4: who decides the mode.
+-- Document 01, "The table": what a table is, and when it is accepted; document 02, No. 4: who decides the mode, and No. 9: how long a board settles.
 -- Assumes nothing.
 use Prim.Native.Nat.{ℕ, _+_, _^_, _<_, _≤_}
 use mathlib.Core.Path.{_≡_}
@@ -7,10 +7,12 @@ use mathlib.Core.Logic.{_⊎_}
 use lib.ListN.{length, getD}
 use Rattle.rules.specs.Sets.{In, Share, Overlap}
 
--- "An operation has a start t, a duration d ..; a set of boards ..; cells it reads; cells it writes ..; a set of modes"
+-- "An operation has a start t, a duration d ..; a set of boards ..; cells it reads; cells it writes ..; a set of modes"; with document 02, No. 9,
+-- "a 16-bit hold after the duration", which is 0 where no tick is needed to settle
 pub record Op : Type 0 where
   pub start : ℕ
   pub dur : ℕ
+  pub hold : ℕ
   pub boards : ℕ
   pub reads : ℕ
   pub writes : ℕ
@@ -40,7 +42,7 @@ nops T = length (T .ops)
 
 -- what stands past the end of the operations: it runs in no mode
 abbrev pub noOp : Op
-noOp = record { start = 0; dur = 0; boards = 0; reads = 0; writes = 0; modes = 0 }
+noOp = record { start = 0; dur = 0; hold = 0; boards = 0; reads = 0; writes = 0; modes = 0 }
 
 abbrev pub op : Table → ℕ → Op
 op T i = getD (T .ops) i noOp
@@ -53,13 +55,14 @@ followers T a = getD (T .follow) a 0
 abbrev pub Turn : Table → ℕ → ℕ → Type 0
 Turn T a b = In b (followers T a)
 
--- "An operation holds its boards and uses its cells from t up to but not including t + d." Two names for the two ends, which are one date
--- today: values and margins go by endOf, boards by heldTo.
+-- "An operation holds its boards and uses its cells from t up to but not including t + d.": and with document 02, No. 9, "cells, EARLY and margins
+-- still go by the duration"
 abbrev pub endOf : Op → ℕ
 endOf o = o .start + o .dur
 
+-- but "Boards are held until start + duration + hold"
 abbrev pub heldTo : Op → ℕ
-heldTo o = o .start + o .dur
+heldTo o = o .start + o .dur + o .hold
 
 -- ---- clash and race
 
@@ -104,10 +107,10 @@ pub record SetOf (n s : ℕ) : Type 0 where
   pub small : s < 2 ^ n
 
 -- "a start t, a duration d of at least 1, with t + d at most p; a set of boards, not empty; cells it reads; cells it writes (either set
--- may be empty, and they may meet); a set of modes, not empty"
+-- may be empty, and they may meet); a set of modes, not empty"; document 02, No. 9: "start + duration + hold, which may not pass p"
 pub record OpOk (T : Table) (o : Op) : Type 0 where
   pub lasts : 1 ≤ o .dur
-  pub fits : o .start + o .dur ≤ T .len
+  pub fits : heldTo o ≤ T .len
   pub boards : SetOf (T .boards) (o .boards)
   pub reads : o .reads < 2 ^ T .cells
   pub writes : o .writes < 2 ^ T .cells

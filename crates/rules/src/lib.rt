@@ -6,5 +6,5 @@ ghost use Rattle.rules.specs.Bytes.{farthest};
 pub fn most_looked_at() -> usize
     ensures { λ r. ⌜ r ≡ farthest ⌝ }
 {
-    825
+    889
 }

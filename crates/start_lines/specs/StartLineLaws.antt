@@ -13,7 +13,7 @@ use Rattle.rules.specs.Verdicts.{accepted}
 use Rattle.rules.specs.Bytes.{num16, rowAt}
 use Rattle.rules.specs.Judge.{atEnd, rowWrong, rowsFrom, judgeReply}
 use Rattle.rules.specs.Text.{decimal, opWord, startWord, newline, startLine, startLines, startsText, told, longestText}
-use Rattle.theory.proofs.Judging.{fields-passing, fields-ended}
+use Rattle.theory.proofs.Judging.{place-even, fields-passing, fields-ended}
 use Rattle.theory.proofs.Replies.{reply-row, reply-in}
 use Rattle.theory.proofs.Text.{decimal-length, lines-none, lines-snoc}
 use Rattle.theory.proofs.Verdicts.{then-rest, onwards-first}
@@ -75,9 +75,10 @@ module _ (s out : List ℕ) where
 rows-filled : (s : List ℕ) (rs : List Row) → rowsFrom (ticks (num16 s 3)) s 32 5 ≡ accepted rs → (length s - 5) / 7 ≤ 32
 unfolding rowsFrom
 rows-filled s rs come =
-    let passing = fields-passing atEnd 18 4 (rowWrong (ticks (num16 s 3))) rowAt s (rowAt s 0) 32 5 rs come in
-    let ended = fields-ended atEnd 18 4 (rowWrong (ticks (num16 s 3))) rowAt s 32 5 rs come in
-    omega (arith, passing .few, leb-true (length s) _ (ended .done))
+    let wrong = rowWrong (ticks (num16 s 3)) in
+    let passing = fields-passing atEnd 18 (λ t at. 4) (λ t at. wrong (rowAt t at)) rowAt s wrong (λ at e. e) (rowAt s 0) 32 5 rs come in
+    let ended = fields-ended atEnd 18 (λ t at. 4) (λ t at. wrong (rowAt t at)) rowAt s 32 5 rs come in
+    omega (arith, passing .few, leb-true (length s) _ (ended .done), place-even 4 s 5 (length rs))
 
 module _ (s : List ℕ) (e : heard (judgeReply s) ≡ accepted tt) where
   -- it has at most 32 rows

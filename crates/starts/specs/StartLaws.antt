@@ -34,27 +34,34 @@ unfolding heard more onwards
 heard-more x (accepted xs) = refl
 heard-more x (refused n a b) = refl
 
+-- a row's value has four bytes; which of its numbers is wrong first
+abbrev rowSize : List ℕ → ℕ → ℕ
+rowSize s at = 4
+
+abbrev rowsWrong : Ticks → List ℕ → ℕ → ℕ
+rowsWrong q s at = rowWrong q (rowAt s at)
+
 module _ (q : Ticks) (s : List ℕ) (left at : ℕ) where
   abbrev here : Test
   here = repeatTest s at left 18 4 (rowWrong q (rowAt s at))
 
   pub rows-end : length s ≤ at → accepted tt ≡ heard (rowsFrom q s left at)
   unfolding heard rowsFrom onwards
-  rows-end h = sym (ap heard (no-field atEnd 18 4 (rowWrong q) rowAt s at left (le-leb (length s) at h)))
+  rows-end h = sym (ap heard (no-field atEnd 18 rowSize (rowsWrong q) rowAt s at left (le-leb (length s) at h)))
 
   pub rows-bad : (r : Refusal) → at < length s → refusalOf r ≡ here → refusalOf r ≡ heard (rowsFrom q s left at)
   unfolding heard rowsFrom
   rows-bad r h e =
-      sym (onwards-refusal r _ (from-next 18 4 (rowWrong q) rowAt s atEnd left at (lt-leb (length s) at h) ∙ onwards-refusal r _ (then-refusal r (accepted (rowAt s at)) (sym e))))
+      sym (onwards-refusal r _ (from-next 18 rowSize (rowsWrong q) rowAt s atEnd left at (lt-leb (length s) at h) ∙ onwards-refusal r _ (then-refusal r (accepted (rowAt s at)) (sym e))))
 
   pub rows-more : at < length s → accepted tt ≡ here
       → (at + 7 ≤ length s) × (left ≡ 0 → ⊥) × (heard (rowsFrom q s left at) ≡ heard (rowsFrom q s (left - 1) (at + 7)))
   unfolding rowsFrom
   rows-more h e =
-      let whole = repeat-whole 18 4 (rowWrong q) rowAt s left at (sym e) in (
+      let whole = repeat-whole 18 rowSize (rowsWrong q) rowAt s left at (sym e) in (
         omega (arith, whole .0),
         whole .1,
-        ap heard (from-next 18 4 (rowWrong q) rowAt s atEnd left at (lt-leb (length s) at h) ∙ onwards-accepts _ (then-accepts (accepted (rowAt s at)) (sym e)))
+        ap heard (from-next 18 rowSize (rowsWrong q) rowAt s atEnd left at (lt-leb (length s) at h) ∙ onwards-accepts _ (then-accepts (accepted (rowAt s at)) (sym e)))
             ∙ heard-more (rowAt s at) _,
       )
 

@@ -11,7 +11,7 @@ ghost use Rattle.sweeps.specs.Sweeps.{modesAfter, AllKept, HitAny, First
 // a run can reach. Those of the set that still count are given back.
 fn mark_set(
     wrong: &mut [u8; 1000],
-    cols: &[u32; 192],
+    cols: &[u32; 224],
     row: &[u32; 32],
     reached: u32,
     i: usize,
@@ -34,7 +34,7 @@ fn mark_set(
 pub fn mark_distance(
     wrong: &mut [u8; 1000],
     later: &mut [u32; 32],
-    cols: &[u32; 192],
+    cols: &[u32; 224],
     row: &[u32; 32],
     reached: u32,
     n: u32,

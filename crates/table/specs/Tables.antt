@@ -23,6 +23,7 @@ opOf o =
     record {
       start = o .start;
       dur = o .dur;
+      hold = o .hold;
       boards = o .boards;
       reads = o .reads;
       writes = o .writes;
@@ -54,6 +55,7 @@ opIn o =
     record {
       start = o .start;
       dur = o .dur;
+      hold = o .hold;
       boards = o .boards;
       reads = o .reads;
       writes = o .writes;

@@ -1,6 +1,5 @@
 // A table as the code hands it around, by value, its dates and its places.
 ghost use mathlib.Core.Path.{_≡_};
-ghost use Prim.Native.Nat.{_+_, _*_, _≤_};
 ghost use Rattle.rules.specs.Table.{endOf, heldTo};
 ghost use Rattle.rules.specs.Judge.{opsPlace};
 ghost use Rattle.fields.specs.Verdicts.{refusalOf};
@@ -11,6 +10,7 @@ use fields::Verdict;
 pub struct Op {
     pub start: u32,
     pub dur: u32,
+    pub hold: u32,
     pub boards: u32,
     pub reads: u32,
     pub writes: u32,
@@ -49,6 +49,7 @@ pub fn empty() -> Table
     let none = Op {
         start: 0,
         dur: 0,
+        hold: 0,
         boards: 0,
         reads: 0,
         writes: 0,
@@ -92,8 +93,8 @@ pub fn end_of(o: Op) -> u64
 pub fn held_to(o: Op) -> u64
     ensures { λ r. ⌜ r ≡ heldTo (opOf o) ⌝ }
 {
-    let held = o.dur as u64;
-    o.start as u64 + held
+    let settled = o.dur as u64 + o.hold as u64;
+    o.start as u64 + settled
 }
 
 // Where the operations begin in a table's bytes.
@@ -101,12 +102,4 @@ pub fn ops_place(modes: u32) -> usize
     ensures { λ r. ⌜ r ≡ opsPlace modes ⌝ }
 {
     18 + 4 * (modes as usize)
-}
-
-// Where they end: each has 21 bytes.
-pub fn ops_end(modes: u32, count: usize) -> usize
-    requires { ⌜ count ≤ 32 ⌝ }
-    ensures { λ r. ⌜ r ≡ opsPlace modes + 21 * count ⌝ }
-{
-    ops_place(modes) + 21 * count
 }

@@ -244,7 +244,7 @@ unfold-length s out w e = rw e (written-length _ out)
 pub write-length : (N : Numbers) (out : List ℕ) (w : Written) → IsWrite N out w → length (w .buffer) ≡ length out
 write-length N out w e = rw e (written-length _ out)
 
--- ---- "no answer depends on bytes past 825": two inputs that differ only there have one answer
+-- ---- "no answer depends on bytes past 889": two inputs that differ only there have one answer
 module _ (s t : List ℕ) (near : take farthest s ≡ take farthest t) where
   pub plan-near : (out : List ℕ) (w : Written) → IsPlan s out w → IsPlan t out w
   plan-near out w (v, r, e) = (v, rw (no-farther s t near) at r, e)

@@ -8,7 +8,7 @@ use Rattle.rules.specs.Rows.{Reply, margin}
 use Rattle.rules.specs.Verdicts.{Verdict, accepted, _then_, onwards}
 use Rattle.rules.specs.Judge.{judge}
 use Rattle.rules.specs.Answers.{ReplyTo, BoardsFit, ValuesArrive, marginTest}
-use Rattle.rules.specs.Bench.{Case, replies, margins, fits, arrives, Holds, All, bench, deciderBench}
+use Rattle.rules.specs.Bench.{Case, replies, margins, fits, arrives, Holds, All, bench, deciderBench, holdBench}
 use Rattle.theory.specs.Tests.{planOf, boardsAnswer, valuesAnswer}
 use Rattle.theory.proofs.Answering.{reply-found, boards-found, values-found}
 
@@ -63,3 +63,11 @@ decider-computes = refl
 
 pub decider-bench-holds : All Holds deciderBench
 decider-bench-holds = all-computed deciderBench decider-computes
+
+-- document 02, No. 9: tables with a hold
+hold-computes : map computed holdBench ≡ map expected holdBench
+unfolding computed expected holdBench
+hold-computes = refl
+
+pub hold-bench-holds : All Holds holdBench
+hold-bench-holds = all-computed holdBench hold-computes

@@ -1,28 +1,29 @@
 -- Document 02, No. 7: RANGE names the first wrong number. Every number before it in layout order is in its range, and it is not; of a table's
 -- bytes, of a table handed over as numbers, and of a reply's bytes.
 -- Assumes nothing.
-use Prim.Native.Nat.{ℕ, zero, suc, _+_, _*_, _<_, _≤_}
+use Prim.Native.Nat.{ℕ, zero, suc, _+_, _-_, _*_, _<_, _≤_}
 use mathlib.Core.Path.{_≡_, refl, sym, ap, subst, _∙_}
-use mathlib.Core.Bool.{Bool, false, not}
+use mathlib.Core.Bool.{Bool, true, false, not, _&&_, _||_}
 use mathlib.Core.List.{List, [], _∷_}
-use mathlib.Core.Logic.{_⊎_, inl, inr}
+use mathlib.Core.Logic.{_↔_, _⊎_, inl, inr}
 use native.Mathlib.Omega.{arith}
 use lib.Dec.{leb, ltb, eqb}
 use lib.ListN.{length, getD, drop}
-use borrow.Author.Tests.{eqb-true, eqb-false, lt-ltb, not-true, not-false}
-use Rattle.rules.specs.Table.{Op, noOp, Decider, decides, Table, nops}
+use borrow.Author.Tests.{eqb-true, eqb-false, lt-ltb, leb-true, leb-false, not-true, not-false}
+use Rattle.rules.specs.Table.{Op, noOp, Decider, decides, Table, nops, endOf, heldTo}
 use Rattle.rules.specs.Rows.{Ticks, ticks}
 use Rattle.rules.specs.Verdicts.{Verdict, accepted, refused, SHORT, ORDER, SIZE, RANGE, MANY, CLASH, RACE, refuseIf, _then_, more}
-use Rattle.rules.specs.Bytes.{num8, num16, num32, words, opAt, rowAt}
-use Rattle.rules.specs.Judge.{needed, header, due, sized, complete, notMany, ranged, fieldTest, repeatTest, atEnd, fieldsFrom, Number, firstWrong, lenRanges, lenWrong, countRanges, countsWrong, setRanges, setsWrong, opRanges, opWrong, deciderRanges, deciderWrong, clashes, races, pairsTest, earlyTest, judgeWhole, headOf, withOps, withDecider, opsPlace, opsEnd, headTest, opsDone, opsFrom, nothingDue, deciderAt, judgeBehind, judge, Numbers, opOfNumbers, headOfNumbers, deciderOf, numbersTest, opsOfNumbers, judgeNumbers, rowRanges, rowWrong, rowsFrom, judgeReply}
-use Rattle.theory.specs.Numbers.{opAmong}
-use Rattle.theory.specs.Blamed.{bytesBefore, among, Names, numberAt, ReadFrom, stepAt, FieldBehind, HandedBehind, rowThere, Blames, length-wrong, count-wrong, set-wrong, step-wrong, decider-wrong, ReplyBlames, period-wrong, row-wrong}
-use Rattle.theory.proofs.Says.{clash-bool}
+use Rattle.rules.specs.Bytes.{num8, num16, num32, words, opSize, heldAt, readOp, opAt, rowAt}
+use Rattle.rules.specs.Judge.{needed, header, due, sized, complete, notMany, ranged, fieldTest, repeatTest, atEnd, fieldsFrom, Number, firstWrong, lenRanges, lenWrong, countRanges, countsWrong, setRanges, setsWrong, opRanges, opWrong, deciderRanges, deciderWrong, clashes, races, pairsTest, earlyTest, judgeWhole, headOf, withOps, withDecider, opsPlace, opsSize, opsEnd, headTest, opsDone, sizeAt, wrongAt, opsFrom, nothingDue, deciderAt, judgeBehind, judge, Numbers, markedOf, opOfNumbers, headOfNumbers, deciderOf, noneLeft, numbersTest, opsOfNumbers, judgeNumbers, rowRanges, rowWrong, rowsFrom, judgeReply}
+use Rattle.theory.specs.Holds.{placeFrom, HoldWrong}
+use Rattle.theory.specs.Numbers.{opAmong, markAmong, placeAmong}
+use Rattle.theory.specs.Blamed.{bytesBefore, among, Names, numberAt, ReadFrom, Steps, StepFine, stepPlace, stepsIn, stepsOf, FieldBehind, HandedBehind, rowThere, Blames, length-wrong, count-wrong, set-wrong, step-wrong, decider-wrong, ReplyBlames, period-wrong, row-wrong}
+use Rattle.theory.proofs.Says.{Known, holds, fails, known, says-leb, says-ltb, says-and, clash-bool}
 use Rattle.theory.proofs.Verdicts.{never-refused, passed, fault-refused, then-first, then-rest, then-refused, onwards-refused, more-first, more-refused}
-use Rattle.theory.proofs.Ranges.{first-told, told-first, range-passed}
+use Rattle.theory.proofs.Ranges.{first-told, told-first, range-passed, op-no-hold, op-held-past}
 use Rattle.theory.proofs.Deciders.{early-number}
-use Rattle.theory.proofs.Judging.{both, field-row, repeat-row, field-passed, repeat-passed, fields-end, fields-next, fields-values, pairs-refused, whole-row, HeadOk, head-row, head-ok, judge-row, behind-row, decider-row, nothing-row, ops-passing, numbers-end, numbers-next, numbers-passing, numbers-row, numbers-ok, judgeDecider-row, judgeNumbers-row}
-use Rattle.theory.proofs.Numbers.{after-op}
+use Rattle.theory.proofs.Judging.{both, field-row, repeat-row, field-passed, repeat-passed, place-even, fields-end, fields-next, fields-values, own-form, plain-handed, size-none, size-more, pairs-refused, whole-row, HeadOk, head-row, head-ok, judge-row, behind-row, decider-row, nothing-row, ops-passing, ops-place, numbers-end, numbers-next, numbers-passing, numbers-row, numbers-ok, judgeDecider-row, judgeNumbers-row}
+use Rattle.theory.proofs.Numbers.{after-op, after-mark}
 use Rattle.theory.proofs.Replies.{reply-row}
 
 -- ---- tests that are not of ranges
@@ -130,131 +131,145 @@ module _ (s : List ℕ) (at tag size wrong : ℕ) {a b : ℕ} where
       let (_, may, e3) = behind _ _ (many-other at left) e2 in
       (omega (arith, eqb-false left 0 (passed _ MANY at 0 may)), value-blames e3)
 
--- ---- what comes repeatedly, each `unit` places behind the one before, the first at a place
+-- ---- what comes repeatedly: which number of each is wrong first, and where each begins
 
 -- one of at most `left` is refused for a range, and in those before it no number is wrong
-record FirstRange {A : Type 0} (wrong : A → ℕ) (value : ℕ → A) (unit left at a b : ℕ) : Type 0 where
+record FirstRange (wrong place : ℕ → ℕ) (left a b : ℕ) : Type 0 where
   which : ℕ
   few : which < left
-  before : (j : ℕ) → j < which → wrong (value j) ≡ 0
-  here : ranged (wrong (value which)) (at + unit * which) ≡ refused RANGE a b
+  before : (j : ℕ) → j < which → wrong j ≡ 0
+  here : ranged (wrong which) (place which) ≡ refused RANGE a b
 
-module _ {A : Type 0} (wrong : A → ℕ) (value : ℕ → A) (unit left at a b : ℕ) where
+module _ (wrong place : ℕ → ℕ) (left a b : ℕ) where
   -- the first, and one behind a first that passes
-  range-here : ranged (wrong (value 0)) at ≡ refused RANGE a b → FirstRange wrong value unit (suc left) at a b
-  range-here e =
-      let place : at ≡ at + unit * 0 = omega arith in
-      record { which = 0; few = omega arith; before = λ j h. absurd (omega arith); here = subst (λ (p : ℕ). ranged (wrong (value 0)) p ≡ refused RANGE a b) place e }
+  range-here : ranged (wrong 0) (place 0) ≡ refused RANGE a b → FirstRange wrong place (suc left) a b
+  range-here e = record { which = 0; few = omega arith; before = λ j h. absurd (omega arith); here = e }
 
-  range-more : (next : ℕ → A) (place : ℕ) → ((j : ℕ) → next j ≡ value (suc j)) → place ≡ at + unit → wrong (value 0) ≡ 0
-      → FirstRange wrong next unit left place a b → FirstRange wrong value unit (suc left) at a b
-  range-more next place same e fine x =
-      let there : place + unit * x .which ≡ at + unit * suc (x .which) = omega arith in
+  range-more : (next : ℕ → ℕ) → ((j : ℕ) → next j ≡ wrong (suc j)) → wrong 0 ≡ 0
+      → FirstRange next (λ j. place (suc j)) left a b → FirstRange wrong place (suc left) a b
+  range-more next same fine x =
       record {
         which = suc (x .which);
         few = omega (arith, x .few);
         before = earlier;
-        here =
-            subst (λ (p : ℕ). ranged (wrong (value (suc (x .which)))) p ≡ refused RANGE a b) there
-            (subst (λ (v : A). ranged (wrong v) (place + unit * x .which) ≡ refused RANGE a b) (same (x .which)) (x .here));
+        here = subst (λ (w : ℕ). ranged w (place (suc (x .which))) ≡ refused RANGE a b) (same (x .which)) (x .here);
       }
     where
-      earlier : (j : ℕ) → j < suc (x .which) → wrong (value j) ≡ 0
+      earlier : (j : ℕ) → j < suc (x .which) → wrong j ≡ 0
       earlier zero h = fine
-      earlier (suc j) h = ap wrong (sym (same j)) ∙ x .before j (omega arith)
+      earlier (suc j) h = sym (same j) ∙ x .before j (omega arith)
 
 -- repeated fields
-module _ {A : Type 0} (ends : List ℕ → ℕ → Bool) (tag size : ℕ) (wrong : A → ℕ) (value : List ℕ → ℕ → A) (s : List ℕ) {a b : ℕ} where
+module _ {A : Type 0} (ends : List ℕ → ℕ → Bool) (tag : ℕ) (size wrong : List ℕ → ℕ → ℕ) (value : List ℕ → ℕ → A) (s : List ℕ) {a b : ℕ} where
   fields-blames : (left at : ℕ) → fieldsFrom ends tag size wrong value s left at ≡ refused RANGE a b
-      → FirstRange wrong (λ j. value s (at + (3 + size) * j)) (3 + size) left at a b
+      → FirstRange (λ j. wrong s (placeFrom size s at j)) (placeFrom size s at) left a b
+  unfolding placeFrom
   fields-blames zero at e =
       both (ends s at) (sym (fields-end ends tag size wrong value s at) ∙ e)
       (λ _ x. never-refused {x = []} (sym x))
       (λ _ x.
       then-refused _ _ x
-      (λ h. let (more, _) = repeat-blames s at tag size _ 0 h in absurd (omega arith))
+      (λ h. let (more, _) = repeat-blames s at tag _ _ 0 h in absurd (omega arith))
       (λ _ _ h. never-refused {x = []} (sym h)))
   fields-blames (suc left) at e =
       both (ends s at) (sym (fields-next ends tag size wrong value s left at) ∙ e)
       (λ _ x. never-refused {x = []} (sym x))
       (λ _ x.
       then-refused _ _ x
-      (λ h.
-      range-here wrong values (3 + size) left at a b
-      (subst (λ (v : A). ranged (wrong v) at ≡ refused RANGE a b) (sym first) (repeat-blames s at tag size _ (suc left) h .1)))
+      (λ h. range-here (λ j. wrong s (placeFrom size s at j)) (placeFrom size s at) left a b (repeat-blames s at tag _ _ (suc left) h .1))
       (λ _ h m.
-      range-more wrong values (3 + size) left at a b (λ j. value s (at + 3 + size + (3 + size) * j)) (at + 3 + size)
-      (λ j. ap (value s) (omega arith)) (omega arith)
-      (ap wrong first ∙ repeat-passed s at tag size _ (suc left) h .2)
-      (fields-blames left (at + 3 + size) (more-refused _ _ m))))
-    where
-      values : ℕ → A
-      values j = value s (at + (3 + size) * j)
+      range-more (λ j. wrong s (placeFrom size s at j)) (placeFrom size s at) left a b (λ j. wrong s (placeFrom size s (at + 3 + size s at) j)) (λ j. refl)
+      (repeat-passed s at tag _ _ (suc left) h .2)
+      (fields-blames left (at + 3 + size s at) (more-refused _ _ m))))
 
-      first : values 0 ≡ value s at
-      first = ap (value s) (omega arith)
+-- the numbers of operations, each in the form that its mark says
+abbrev handedWrong : Table → List ℕ → List ℕ → ℕ → ℕ
+handedWrong T ns hs j = opWrong T (markAmong hs j) (opAmong ns hs j)
 
--- the numbers of operations
+after-wrong : (T : Table) (ns hs : List ℕ) (j : ℕ) → handedWrong T (drop 6 ns) (drop 2 hs) j ≡ handedWrong T ns hs (suc j)
+after-wrong T ns hs j =
+    ap (λ (held : Bool). opWrong T held (opAmong (drop 6 ns) (drop 2 hs) j)) (after-mark hs j) ∙ ap (opWrong T (markAmong hs (suc j))) (after-op ns hs j)
+
 module _ (T : Table) {a b : ℕ} where
-  ops-blames : (ns : List ℕ) (left at : ℕ) → opsOfNumbers T ns left at ≡ refused RANGE a b → FirstRange (opWrong T) (opAmong ns) 21 left at a b
-  ops-blames ns zero at e =
-      both (eqb (length ns) 0) (sym (numbers-end T ns at) ∙ e)
+  ops-blames : (ns hs : List ℕ) (left at : ℕ) → opsOfNumbers T ns hs left at ≡ refused RANGE a b
+      → FirstRange (handedWrong T ns hs) (placeAmong hs at) left a b
+  unfolding placeAmong
+  ops-blames ns hs zero at e =
+      both (noneLeft ns hs) (sym (numbers-end T ns hs at) ∙ e)
       (λ _ x. never-refused {x = []} (sym x))
       (λ _ x. absurd (other-then (notMany at 0) (accepted []) (many-other at 0) (other-accepted []) a b x))
-  ops-blames ns (suc left) at e =
-      both (eqb (length ns) 0) (sym (numbers-next T ns left at) ∙ e)
+  ops-blames ns hs (suc left) at e =
+      both (noneLeft ns hs) (sym (numbers-next T ns hs left at) ∙ e)
       (λ _ x. never-refused {x = []} (sym x))
       (λ _ x.
-      let (_, _, e1) = behind _ _ (other-if (ltb (length ns) 6) SHORT at 0 (λ h. omega arith)) x in
+      let (_, _, e1) = behind _ _ (other-if (ltb (length ns) 6 || ltb (length hs) 2) SHORT at 0 (λ h. omega arith)) x in
       then-refused _ _ e1
-      (λ h. range-here (opWrong T) (opAmong ns) 21 left at a b h)
+      (λ h. range-here (handedWrong T ns hs) (placeAmong hs at) left a b h)
       (λ _ h m.
-      range-more (opWrong T) (opAmong ns) 21 left at a b (opAmong (drop 6 ns)) (at + 21) (after-op ns) refl (range-passed _ at h)
-      (ops-blames (drop 6 ns) left (at + 21) (more-refused _ _ m))))
+      range-more (handedWrong T ns hs) (placeAmong hs at) left a b (handedWrong T (drop 6 ns) (drop 2 hs)) (after-wrong T ns hs) (range-passed _ at h)
+      (ops-blames (drop 6 ns) (drop 2 hs) left (at + 3 + opSize (markedOf hs)) (more-refused _ _ m))))
+
+-- in those that are accepted no number is wrong, and the next would be written behind all that is written for them
+record HandedFine (T : Table) (ns hs : List ℕ) (at : ℕ) (os : List Op) : Type 0 where
+  each : (j : ℕ) → j < length os → handedWrong T ns hs j ≡ 0
+  end : placeAmong hs at (length os) ≡ at + opsSize os
 
 module _ (T : Table) where
-  -- in those that are accepted no number is wrong
-  ops-fine : (ns : List ℕ) (left at : ℕ) (os : List Op) → opsOfNumbers T ns left at ≡ accepted os → (j : ℕ) → j < length os → opWrong T (opAmong ns j) ≡ 0
-  ops-fine ns zero at os e j h =
-      both (eqb (length ns) 0) (sym (numbers-end T ns at) ∙ e)
-      (λ _ x. let same : [] ≡ os = cc in absurd (omega (arith, ap (λ (us : List Op). length us) same)))
-      (λ _ x. let same : [] ≡ os = cc (then-rest (notMany at 0) (accepted []) x) in absurd (omega (arith, ap (λ (us : List Op). length us) same)))
-  ops-fine ns (suc left) at os e j h =
-      both (eqb (length ns) 0) (sym (numbers-next T ns left at) ∙ e)
-      (λ _ x. let same : [] ≡ os = cc in absurd (omega (arith, ap (λ (us : List Op). length us) same)))
+  handed-none : (ns hs : List ℕ) (at : ℕ) → HandedFine T ns hs at []
+  unfolding placeAmong
+  handed-none ns hs at = record { each = λ j h. absurd (omega arith); end = omega (arith, size-none) }
+
+  handed-more : (ns hs : List ℕ) (at : ℕ) (os : List Op) → opWrong T (markedOf hs) (opOfNumbers ns hs) ≡ 0
+      → HandedFine T (drop 6 ns) (drop 2 hs) (at + 3 + opSize (markedOf hs)) os → HandedFine T ns hs at (opOfNumbers ns hs ∷ os)
+  unfolding placeAmong
+  handed-more ns hs at os fine x =
+      let o = opOfNumbers ns hs in
+      let form = own-form T (markedOf hs) o (plain-handed ns hs) fine in
+      record { each = one; end = x .end ∙ omega (arith, size-more o os, ap opSize form) }
+    where
+      one : (j : ℕ) → j < length (opOfNumbers ns hs ∷ os) → handedWrong T ns hs j ≡ 0
+      one zero h = fine
+      one (suc i) h = sym (after-wrong T ns hs i) ∙ x .each i (omega arith)
+
+  ops-fine : (ns hs : List ℕ) (left at : ℕ) (os : List Op) → opsOfNumbers T ns hs left at ≡ accepted os → HandedFine T ns hs at os
+  ops-fine ns hs zero at os e =
+      both (noneLeft ns hs) (sym (numbers-end T ns hs at) ∙ e)
+      (λ _ x. let same : [] ≡ os = cc in subst (λ (us : List Op). HandedFine T ns hs at us) same (handed-none ns hs at))
+      (λ _ x. let same : [] ≡ os = cc (then-rest (notMany at 0) (accepted []) x) in subst (λ (us : List Op). HandedFine T ns hs at us) same (handed-none ns hs at))
+  ops-fine ns hs (suc left) at os e =
+      both (noneLeft ns hs) (sym (numbers-next T ns hs left at) ∙ e)
+      (λ _ x. let same : [] ≡ os = cc in subst (λ (us : List Op). HandedFine T ns hs at us) same (handed-none ns hs at))
       (λ _ x.
       let from = then-rest _ _ x in
-      let (us, come, whole) = more-first (opOfNumbers ns) _ (then-rest _ _ from) in
-      one j (omega (arith, ap (λ (vs : List Op). length vs) whole)) (range-passed _ at (then-first _ _ from .1)) (ops-fine (drop 6 ns) left (at + 21) us come))
-    where
-      one : (j : ℕ) {n : ℕ} → j < suc n → opWrong T (opOfNumbers ns) ≡ 0 → ((i : ℕ) → i < n → opWrong T (opAmong (drop 6 ns) i) ≡ 0) → opWrong T (opAmong ns j) ≡ 0
-      one zero h first rest = first
-      one (suc i) h first rest = ap (opWrong T) (sym (after-op ns i)) ∙ rest i (omega arith)
+      let (us, come, whole) = more-first (opOfNumbers ns hs) _ (then-rest _ _ from) in
+      subst (λ (vs : List Op). HandedFine T ns hs at vs) (sym whole)
+      (handed-more ns hs at us (range-passed _ at (then-first _ _ from .1)) (ops-fine (drop 6 ns) (drop 2 hs) left _ us come)))
 
 -- ---- what stands before the operations, and an operation
 
-module _ (H : Table) (step : ℕ → Op) (Behind : ℕ → Decider → Type 0) {a b : ℕ} where
-  len-blames : ranged (lenWrong (H .len)) 0 ≡ refused RANGE a b → Blames H step Behind a b
+module _ (H : Table) (S : Steps) (Behind : ℕ → Decider → Type 0) {a b : ℕ} where
+  len-blames : ranged (lenWrong (H .len)) 0 ≡ refused RANGE a b → Blames H S Behind a b
   unfolding lenWrong
   len-blames e = let (place, names) = ranged-names (lenRanges (H .len)) 0 e in length-wrong place names
 
-  counts-blames : lenWrong (H .len) ≡ 0 → ranged (countsWrong (H .boards) (H .cells) (H .modes)) 5 ≡ refused RANGE a b → Blames H step Behind a b
+  counts-blames : lenWrong (H .len) ≡ 0 → ranged (countsWrong (H .boards) (H .cells) (H .modes)) 5 ≡ refused RANGE a b → Blames H S Behind a b
   unfolding countsWrong
   counts-blames len e = let (place, names) = ranged-names (countRanges (H .boards) (H .cells) (H .modes)) 5 e in count-wrong len place names
 
   module _ (len : lenWrong (H .len) ≡ 0) (counts : countsWrong (H .boards) (H .cells) (H .modes) ≡ 0) where
-    sets-blames : ranged (setsWrong (H .modes) (H .first ∷ H .follow)) 11 ≡ refused RANGE a b → Blames H step Behind a b
+    sets-blames : ranged (setsWrong (H .modes) (H .first ∷ H .follow)) 11 ≡ refused RANGE a b → Blames H S Behind a b
     unfolding setsWrong
     sets-blames e = let (place, names) = ranged-names (setRanges (H .modes) (H .first ∷ H .follow)) 11 e in set-wrong len counts place names
 
-    step-blames : setsWrong (H .modes) (H .first ∷ H .follow) ≡ 0 → FirstRange (opWrong H) step 21 32 (opsPlace (H .modes)) a b → Blames H step Behind a b
+    step-blames : setsWrong (H .modes) (H .first ∷ H .follow) ≡ 0
+        → FirstRange (λ j. opWrong H (S .form j) (S .step j)) (S .place) 32 a b → Blames H S Behind a b
     unfolding opWrong
     step-blames sets x =
-        let (place, names) = ranged-names (opRanges H (step (x .which))) (opsPlace (H .modes) + 21 * x .which) (x .here) in
+        let (place, names) = ranged-names (opRanges H (S .form (x .which)) (S .step (x .which))) (S .place (x .which)) (x .here) in
         step-wrong len counts sets (x .which) (x .few) (x .before) place names
 
-    decider-blames : setsWrong (H .modes) (H .first ∷ H .follow) ≡ 0 → (n at : ℕ) → n ≤ 32 → ((j : ℕ) → j < n → opWrong H (step j) ≡ 0)
-        → at ≡ opsPlace (H .modes) + 21 * n → (who : Decider) → Behind n who → ranged (deciderWrong n who) at ≡ refused RANGE a b → Blames H step Behind a b
+    decider-blames : setsWrong (H .modes) (H .first ∷ H .follow) ≡ 0 → (n at : ℕ) → n ≤ 32 → ((j : ℕ) → j < n → StepFine H S j)
+        → at ≡ S .place n → (who : Decider) → Behind n who → ranged (deciderWrong n who) at ≡ refused RANGE a b → Blames H S Behind a b
     unfolding deciderWrong
     decider-blames sets n at few fine place who is e =
         let (here, names) = ranged-names (deciderRanges n who) at e in
@@ -264,37 +279,35 @@ module _ (H : Table) (step : ℕ → Op) (Behind : ℕ → Decider → Type 0) {
 
 -- in the operations that are accepted no number is wrong
 steps-fine : (s : List ℕ) (os : List Op) → opsFrom (headOf s) s 32 (opsPlace (headOf s .modes)) ≡ accepted os
-    → (j : ℕ) → j < length os → opWrong (headOf s) (stepAt s j) ≡ 0
+    → (j : ℕ) → j < length os → StepFine (headOf s) (stepsIn s) j
 unfolding opsFrom
 steps-fine s os come j h =
     let H = headOf s in
-    let place : opsPlace (H .modes) + j * 21 ≡ opsPlace (H .modes) + 21 * j = omega arith in
-    ap (λ (k : ℕ). opWrong H (opAt s k)) (sym place)
-    ∙ ap (opWrong H) (sym (fields-values (opsDone H) 4 18 (opWrong H) opAt s noOp 32 _ os come j h))
-    ∙ ops-passing s H _ os come .each j h
+    fields-values (opsDone H) 4 sizeAt (wrongAt H) opAt s noOp 32 _ os come j h .1
 
 module _ (s : List ℕ) {a b : ℕ} where
-  head-blames : headTest s ≡ refused RANGE a b → Blames (headOf s) (stepAt s) (FieldBehind s) a b
+  head-blames : headTest s ≡ refused RANGE a b → Blames (headOf s) (stepsIn s) (FieldBehind s) a b
   head-blames e =
       then-refused _ _ (sym (head-row s) ∙ e)
-      (λ h. len-blames (headOf s) (stepAt s) (FieldBehind s) (field-blames s 0 1 2 _ h))
+      (λ h. len-blames (headOf s) (stepsIn s) (FieldBehind s) (field-blames s 0 1 2 _ h))
       (λ _ h1 e1.
       let len = field-passed s 0 1 2 _ h1 .1 in
       then-refused _ _ e1
-      (λ h. counts-blames (headOf s) (stepAt s) (FieldBehind s) len (field-blames s 5 2 3 _ h))
+      (λ h. counts-blames (headOf s) (stepsIn s) (FieldBehind s) len (field-blames s 5 2 3 _ h))
       (λ _ h2 e2.
       then-refused _ _ e2
-      (λ h. sets-blames (headOf s) (stepAt s) (FieldBehind s) len (field-passed s 5 2 3 _ h2 .1) (field-blames s 11 3 _ _ h))
+      (λ h. sets-blames (headOf s) (stepsIn s) (FieldBehind s) len (field-passed s 5 2 3 _ h2 .1) (field-blames s 11 3 _ _ h))
       (λ _ _ e3. absurd (needed-other s (opsPlace (headOf s .modes)) a b e3))))
 
   -- who decides, behind the operations
   behind-blames : HeadOk (headOf s) → (os : List Op)
       → opsFrom (headOf s) s 32 (opsPlace (headOf s .modes)) ≡ accepted os
-      → judgeBehind s (withOps (headOf s) os) ≡ refused RANGE a b → Blames (headOf s) (stepAt s) (FieldBehind s) a b
+      → judgeBehind s (withOps (headOf s) os) ≡ refused RANGE a b → Blames (headOf s) (stepsIn s) (FieldBehind s) a b
   behind-blames ok os come e =
       let H = headOf s in
       let T = withOps H os in
       let at = opsEnd T in
+      let place : stepPlace s (length os) ≡ at = ops-place s H _ os come in
       then-refused _ _ (sym (behind-row s T) ∙ e)
       (λ r.
       both (leb (length s) at) (sym (decider-row s at (nops T)) ∙ r)
@@ -303,13 +316,13 @@ module _ (s : List ℕ) {a b : ℕ} where
       then-refused _ _ x
       (λ f.
       let who : deciderAt s at ≡ decides (num8 s (at + 3)) = rw b in
-      decider-blames H (stepAt s) (FieldBehind s) (ok .len) (ok .counts) (ok .sets) (length os) at (ops-passing s H _ os come .few) (steps-fine s os come) refl
-      (deciderAt s at) (field-tag s at 5 1 _ f, who) (field-blames s at 5 1 _ f))
+      decider-blames H (stepsIn s) (FieldBehind s) (ok .len) (ok .counts) (ok .sets) (length os) at (ops-passing s H _ os come .few) (steps-fine s os come) (sym place)
+      (deciderAt s at) (subst (λ (k : ℕ). (num8 s k ≡ 5) × (deciderAt s at ≡ decides (num8 s (k + 3)))) (sym place) (field-tag s at 5 1 _ f, who)) (field-blames s at 5 1 _ f))
       (λ _ _ n. absurd (nothing-other s (at + 4) a _ n))))
       (λ _ _ w. absurd (whole-other (withDecider T (deciderAt s at)) a _ w))
 
   -- "the offset of the first byte of the first wrong number, in layout order"
-  pub judge-blames : judge s ≡ refused RANGE a b → Blames (headOf s) (stepAt s) (FieldBehind s) a b
+  pub judge-blames : judge s ≡ refused RANGE a b → Blames (headOf s) (stepsIn s) (FieldBehind s) a b
   unfolding opsFrom
   judge-blames e =
       then-refused _ _ (sym (judge-row s) ∙ e)
@@ -317,40 +330,43 @@ module _ (s : List ℕ) {a b : ℕ} where
       (λ _ h e1.
       let ok = head-ok s h .0 in
       onwards-refused _ _ e1
-      (λ r. step-blames (headOf s) (stepAt s) (FieldBehind s) (ok .len) (ok .counts) (ok .sets) (fields-blames (opsDone (headOf s)) 4 18 (opWrong (headOf s)) opAt s 32 _ r))
+      (λ r.
+      step-blames (headOf s) (stepsIn s) (FieldBehind s) (ok .len) (ok .counts) (ok .sets)
+      (fields-blames (opsDone (headOf s)) 4 sizeAt (wrongAt (headOf s)) opAt s 32 _ r))
       (behind-blames ok))
 
 -- ---- a table handed over as numbers
 
 module _ (N : Numbers) {a b : ℕ} where
-  first-blames : numbersTest N ≡ refused RANGE a b → Blames (headOfNumbers N) (opAmong (N .ops)) (HandedBehind N) a b
+  first-blames : numbersTest N ≡ refused RANGE a b → Blames (headOfNumbers N) (stepsOf N) (HandedBehind N) a b
   first-blames e =
       then-refused _ _ (sym (numbers-row N) ∙ e)
-      (len-blames (headOfNumbers N) (opAmong (N .ops)) (HandedBehind N))
+      (len-blames (headOfNumbers N) (stepsOf N) (HandedBehind N))
       (λ _ h1 e1.
       let len = range-passed _ 0 h1 in
       then-refused _ _ e1
-      (counts-blames (headOfNumbers N) (opAmong (N .ops)) (HandedBehind N) len)
+      (counts-blames (headOfNumbers N) (stepsOf N) (HandedBehind N) len)
       (λ _ h2 e2.
       let (_, _, e3) = behind _ _ (other-if (not (eqb (length (N .follow)) (N .modes))) SIZE 11 0 (λ h. omega arith)) e2 in
       then-refused _ _ e3
-      (sets-blames (headOfNumbers N) (opAmong (N .ops)) (HandedBehind N) len (range-passed _ 5 h2))
-      (λ _ _ e4. absurd (other-if (eqb (length (N .ops)) 0) ORDER (opsPlace (N .modes)) 0 (λ h. omega arith) a b e4))))
+      (sets-blames (headOfNumbers N) (stepsOf N) (HandedBehind N) len (range-passed _ 5 h2))
+      (λ _ _ e4. absurd (other-if (noneLeft (N .ops) (N .holds)) ORDER (opsPlace (N .modes)) 0 (λ h. omega arith) a b e4))))
 
-  pub numbers-blames : judgeNumbers N ≡ refused RANGE a b → Blames (headOfNumbers N) (opAmong (N .ops)) (HandedBehind N) a b
+  pub numbers-blames : judgeNumbers N ≡ refused RANGE a b → Blames (headOfNumbers N) (stepsOf N) (HandedBehind N) a b
   numbers-blames e =
       then-refused _ _ (sym (judgeNumbers-row N) ∙ e)
       first-blames
       (λ _ h e1.
       let ok = numbers-ok N h .0 in
       onwards-refused _ _ e1
-      (λ r. step-blames (headOfNumbers N) (opAmong (N .ops)) (HandedBehind N) (ok .len) (ok .counts) (ok .sets) (ops-blames (headOfNumbers N) (N .ops) 32 _ r))
+      (λ r. step-blames (headOfNumbers N) (stepsOf N) (HandedBehind N) (ok .len) (ok .counts) (ok .sets) (ops-blames (headOfNumbers N) (N .ops) (N .holds) 32 _ r))
       (λ os come r.
       let T = withOps (headOfNumbers N) os in
-      let (passing, six) = numbers-passing (headOfNumbers N) (N .ops) 32 _ os come in
+      let (passing, counted) = numbers-passing (headOfNumbers N) (N .ops) (N .holds) 32 _ os come in
+      let fine = ops-fine (headOfNumbers N) (N .ops) (N .holds) 32 _ os come in
       then-refused _ _ (sym (judgeDecider-row (deciderOf N) T) ∙ r)
-      (decider-blames (headOfNumbers N) (opAmong (N .ops)) (HandedBehind N) (ok .len) (ok .counts) (ok .sets) (length os) (opsEnd T) (passing .few)
-      (ops-fine (headOfNumbers N) (N .ops) 32 _ os come) refl (deciderOf N) (six, refl))
+      (decider-blames (headOfNumbers N) (stepsOf N) (HandedBehind N) (ok .len) (ok .counts) (ok .sets) (length os) (opsEnd T) (passing .few)
+      (fine .each) (sym (fine .end)) (deciderOf N) (counted .six, counted .two, refl))
       (λ _ _ w. absurd (whole-other (withDecider T (deciderOf N)) a b w))))
 
 -- ---- a reply's bytes
@@ -363,9 +379,11 @@ module _ (s : List ℕ) {a b : ℕ} where
   rows-blame : lenWrong (num16 s 3) ≡ 0 → rowsFrom (ticks (num16 s 3)) s 32 5 ≡ refused RANGE a b → ReplyBlames (ticks (num16 s 3)) (rowThere s) a b
   unfolding rowsFrom rowWrong
   rows-blame len e =
-      let x = fields-blames atEnd 18 4 (rowWrong (ticks (num16 s 3))) rowAt s 32 5 e in
-      let (place, names) = ranged-names (rowRanges (ticks (num16 s 3)) (rowThere s (x .which))) (5 + 7 * x .which) (x .here) in
-      row-wrong len (x .which) (x .few) (x .before) place names
+      let q = ticks (num16 s 3) in
+      let x = fields-blames atEnd 18 (λ s at. 4) (λ s at. rowWrong q (rowAt s at)) rowAt s 32 5 e in
+      let here = subst (λ (k : ℕ). ranged (rowWrong q (rowAt s k)) k ≡ refused RANGE a b) (place-even 4 s 5 (x .which)) (x .here) in
+      let (place, names) = ranged-names (rowRanges q (rowThere s (x .which))) (5 + 7 * x .which) here in
+      row-wrong len (x .which) (x .few) (λ j h. subst (λ (k : ℕ). rowWrong q (rowAt s k) ≡ 0) (place-even 4 s 5 j) (x .before j h)) place names
 
   pub reply-blames : judgeReply s ≡ refused RANGE a b → ReplyBlames (ticks (num16 s 3)) (rowThere s) a b
   reply-blames e =
@@ -404,9 +422,10 @@ module _ (s : List ℕ) where
   unfolding headOf ReadFrom
   sets-read = (refl, words-read (num8 s 10) 18 (num8 s 10))
 
-  pub op-read : (T : Table) (at : ℕ) → ReadFrom s (at + 3) (opRanges T (opAt s at))
+  -- an operation's numbers, in either form
+  form-read : (T : Table) (held : Bool) (at : ℕ) → ReadFrom s (at + 3) (opRanges T held (readOp held s at))
   unfolding ReadFrom
-  op-read T at = (
+  form-read T false at = (
     refl,
     (
       ap (num16 s) (omega arith),
@@ -416,6 +435,23 @@ module _ (s : List ℕ) where
       ),
     ),
   )
+  form-read T true at = (
+    refl,
+    (
+      ap (num16 s) (omega arith),
+      (
+        ap (num16 s) (omega arith),
+        (
+          ap (num16 s) (omega arith),
+          (ap (num32 s) (omega arith), (ap (num32 s) (omega arith), (ap (num32 s) (omega arith), tt))),
+        ),
+      ),
+    ),
+  )
+
+  pub op-read : (T : Table) (at : ℕ) → ReadFrom s (at + 3) (opRanges T (heldAt s at) (opAt s at))
+  unfolding opAt
+  op-read T at = form-read T (heldAt s at) at
 
   pub decider-read : (n at : ℕ) → ReadFrom s (at + 3) (deciderRanges n (decides (num8 s (at + 3))))
   unfolding ReadFrom
@@ -440,21 +476,70 @@ module _ (s : List ℕ) where
   named-read ns a b read x = read-at (x .which) (a + 3) ns (x .there) read ∙ ap (numberAt (among ns (x .which) .bytes) s) (sym (x .begins))
 
   -- "an operation that ends after p blames its duration": no start is ever blamed in bytes, whatever it is
-  starts-fit : ((i : ℕ) → getD s i 0 < 256) → (T : Table) (at a b : ℕ) → Names (opRanges T (opAt s at)) a b → a + 5 ≤ b
+  start-fits : ((i : ℕ) → getD s i 0 < 256) → (at : ℕ) → opAt s at .start < 65536
+  unfolding opAt
+  start-fits bytes at = go (heldAt s at)
+    where
+      go : (held : Bool) → readOp held s at .start < 65536
+      go false = omega (arith, bytes (at + 3), bytes (at + 3 + 1))
+      go true = omega (arith, bytes (at + 3), bytes (at + 3 + 1))
+
+  starts-fit : ((i : ℕ) → getD s i 0 < 256) → (T : Table) (at a b : ℕ) → Names (opRanges T (heldAt s at) (opAt s at)) a b → a + 5 ≤ b
   unfolding bytesBefore
   starts-fit bytes T at a b x = go (x .which) (x .begins) (x .wrong)
     where
-      go : (k : ℕ) → b ≡ a + 3 + bytesBefore k (opRanges T (opAt s at)) → among (opRanges T (opAt s at)) k .ok ≡ false → a + 5 ≤ b
-      go zero e wrong = clash-bool (lt-ltb (opAt s at .start) 65536 (omega (arith, bytes (at + 3), bytes (at + 3 + 1)))) wrong
+      ns : List Number
+      ns = opRanges T (heldAt s at) (opAt s at)
+
+      go : (k : ℕ) → b ≡ a + 3 + bytesBefore k ns → among ns k .ok ≡ false → a + 5 ≤ b
+      go zero e wrong = clash-bool (lt-ltb (opAt s at .start) 65536 (start-fits bytes at)) wrong
       go (suc k) e wrong = omega arith
 
-  unblamed : ((i : ℕ) → getD s i 0 < 256) → {a b : ℕ} → 11 < a → Blames (headOf s) (stepAt s) (FieldBehind s) a b → (a + 5 ≤ b) ⊎ (num8 s a ≡ 5)
+  unblamed : ((i : ℕ) → getD s i 0 < 256) → {a b : ℕ} → 11 < a → Blames (headOf s) (stepsIn s) (FieldBehind s) a b → (a + 5 ≤ b) ⊎ (num8 s a ≡ 5)
   unblamed bytes far (length-wrong e x) = absurd (omega arith)
   unblamed bytes far (count-wrong _ e x) = absurd (omega arith)
   unblamed bytes far (set-wrong _ _ e x) = absurd (omega arith)
-  unblamed bytes {a} {b} far (step-wrong _ _ _ k _ _ e x) = inl (starts-fit bytes (headOf s) (opsPlace (headOf s .modes) + 21 * k) a b x)
+  unblamed bytes {a} {b} far (step-wrong _ _ _ k _ _ e x) = inl (starts-fit bytes (headOf s) (stepPlace s k) a b x)
   unblamed bytes {a} {b} far (decider-wrong _ _ _ n _ _ e who is x) = inr (ap (num8 s) e ∙ is .0)
 
   -- behind field 03, which is at 11, stand the operations, and last the decider's field
   pub no-start-blamed : ((i : ℕ) → getD s i 0 < 256) → {a b : ℕ} → judge s ≡ refused RANGE a b → 11 < a → (a + 5 ≤ b) ⊎ (num8 s a ≡ 5)
   no-start-blamed bytes e far = unblamed bytes far (judge-blames s e)
+
+-- ---- document 02, No. 9: "a 20-byte field with hold 0 is RANGE and blames the hold; so does a hold that alone runs past p". The hold begins 7 bytes
+-- behind the first of its field, and is blamed there exactly where the numbers before it are in their ranges and it is not.
+module _ (T : Table) (o : Op) where
+  pub hold-blamed : (opWrong T true o ≡ 7) ↔ HoldWrong T o
+  unfolding opWrong bytesBefore
+  hold-blamed = (λ e. let x = first-told 3 (opRanges T true o) 7 (omega arith) e in told (x .which) (x .begins) (x .wrong) (x .before), blamed)
+    where
+      told : (k : ℕ) → 7 ≡ 3 + bytesBefore k (opRanges T true o) → among (opRanges T true o) k .ok ≡ false
+          → ((j : ℕ) → j < k → among (opRanges T true o) j .ok ≡ true) → HoldWrong T o
+      told zero e wrong before = absurd (omega arith)
+      told (suc zero) e wrong before = absurd (omega arith)
+      told (suc (suc zero)) e wrong before =
+          let (lasts, ends) = says-and _ _ (says-leb 1 (o .dur)) (says-leb (endOf o) (T .len)) .0 (before 1 (omega arith)) in
+          record { fits = says-ltb (o .start) 65536 .0 (before 0 (omega arith)); lasts = lasts; ends = ends; wrong = past (known (leb 1 (o .hold))) }
+        where
+          past : Known (leb 1 (o .hold)) → (o .hold < 1) ⊎ (T .len < heldTo o)
+          past (holds h) = inr (leb-false (heldTo o) (T .len) (sym (ap (λ (x : Bool). x && leb (heldTo o) (T .len)) h) ∙ wrong))
+          past (fails h) = inl (leb-false 1 (o .hold) h)
+      told (suc (suc (suc k))) e wrong before = absurd (omega arith)
+
+      blamed : HoldWrong T o → opWrong T true o ≡ 7
+      blamed x = go (x .wrong) (known (leb 1 (o .hold)))
+        where
+          go : (o .hold < 1) ⊎ (T .len < heldTo o) → Known (leb 1 (o .hold)) → opWrong T true o ≡ 7
+          go (inl h) _ = op-no-hold T o (x .fits) (x .lasts) (x .ends) h
+          go (inr h) (fails n) = op-no-hold T o (x .fits) (x .lasts) (x .ends) (leb-false 1 (o .hold) n)
+          go (inr h) (holds y) = op-held-past T o (x .fits) (x .lasts) (x .ends) (leb-true 1 (o .hold) y) h
+
+  -- so of the field at a, b is a + 7 exactly there
+  pub hold-named : (a b : ℕ) → Names (opRanges T true o) a b → (b ≡ a + 7) ↔ HoldWrong T o
+  unfolding opWrong
+  hold-named a b x =
+      let told : opWrong T true o ≡ b - a =
+      told-first 3 (opRanges T true o) (b - a)
+      (record { which = x .which; there = x .there; begins = omega (arith, x .begins); wrong = x .wrong; before = x .before })
+      in
+      (λ e. hold-blamed .0 (told ∙ omega arith), λ h. omega (arith, x .begins, told, hold-blamed .1 h))

@@ -1,9 +1,9 @@
 -- The figures of a refusal of a table's bytes, of a table handed over as numbers and of a reply's bytes: its number is 1 to 10, and a and b
--- are places up to 825 or numbers of operations.
+-- are places up to 889 or numbers of operations.
 -- Assumes nothing.
 use Prim.Native.Nat.{ℕ, zero, suc, _+_, _-_, _*_, _<_, _≤_}
 use mathlib.Core.Path.{_≡_, refl, subst}
-use mathlib.Core.Bool.{Bool, true, false, not, cond}
+use mathlib.Core.Bool.{Bool, true, false, not, cond, _||_}
 use mathlib.Core.List.{List, [], _∷_}
 use native.Mathlib.Omega.{arith}
 use lib.Dec.{leb, ltb, eqb}
@@ -12,11 +12,11 @@ use borrow.Author.Tests.{eqb-true, eqb-false, not-false}
 use Rattle.rules.specs.Table.{Op, Decider, nobody, decides, Table, nops, op}
 use Rattle.rules.specs.Verdicts.{Verdict, accepted, refused, SHORT, ORDER, SIZE, RANGE, MANY, CLASH, RACE, EARLY, Test, refuseIf, _then_, onwards, more, each}
 use Rattle.rules.specs.Rows.{ticks}
-use Rattle.rules.specs.Bytes.{num8, num16, opAt, rowAt, farthest}
-use Rattle.rules.specs.Judge.{needed, header, due, sized, complete, ranged, notMany, fieldTest, repeatTest, atEnd, fieldsFrom, lenWrong, countsWrong, setsWrong, opWrong, deciderWrong, clashes, races, pairsTest, always, early, earlyTest, judgeWhole, headOf, withOps, withDecider, opsPlace, opsEnd, headTest, opsDone, opsFrom, nothingDue, deciderAt, deciderTest, judgeBehind, judge, Numbers, opOfNumbers, headOfNumbers, deciderOf, numbersTest, opsOfNumbers, judgeNumbers, rowWrong, rowsFrom, judgeReply}
+use Rattle.rules.specs.Bytes.{num8, num16, opSize, heldAt, opAt, rowAt, farthest}
+use Rattle.rules.specs.Judge.{needed, header, due, sized, complete, ranged, notMany, fieldTest, repeatTest, atEnd, fieldsFrom, lenWrong, countsWrong, setsWrong, opWrong, deciderWrong, clashes, races, pairsTest, always, early, earlyTest, judgeWhole, headOf, withOps, withDecider, opsPlace, opsEnd, headTest, opsDone, sizeAt, wrongAt, opsFrom, nothingDue, deciderAt, deciderTest, judgeBehind, judge, Numbers, markedOf, opOfNumbers, headOfNumbers, deciderOf, noneLeft, numbersTest, opsOfNumbers, judgeNumbers, rowWrong, rowsFrom, judgeReply}
 use Rattle.theory.proofs.Verdicts.{passed}
 use Rattle.theory.proofs.Ranges.{len-within, counts-within, sets-within, op-within, decider-within, row-within, range-passed}
-use Rattle.theory.proofs.Judging.{field-row, repeat-row, fields-end, fields-next, field-passed, says-decider, whole-row, head-row, head-ok, judge-row, behind-row, decider-row, nothing-row, ops-passing, ops-ended, decider-passed, numbers-end, numbers-next, numbers-passing, numbers-row, judgeDecider-row, judgeNumbers-row, numbers-ok, length-words}
+use Rattle.theory.proofs.Judging.{field-row, repeat-row, fields-end, fields-next, field-passed, says-decider, whole-row, head-row, head-ok, judge-row, behind-row, decider-row, nothing-row, form-most, size-most, ops-passing, ops-ended, decider-passed, numbers-end, numbers-next, numbers-passing, numbers-row, judgeDecider-row, judgeNumbers-row, numbers-ok, length-words}
 use Rattle.theory.proofs.Lengths.{modes-few}
 use Rattle.theory.proofs.Replies.{reply-row}
 
@@ -26,7 +26,7 @@ pub record Small (n a b : ℕ) : Type 0 where
   pub first : a ≤ farthest
   pub second : b ≤ farthest
 
--- v is no refusal, or one of the documents' numbers with figures of at most 825
+-- v is no refusal, or one of the documents' numbers with figures of at most 889
 unfoldable pub Bounded : {A : Type 0} → Verdict A → Type 0
 Bounded (accepted x) = Unit {0}
 Bounded (refused n a b) = Small n a b
@@ -125,23 +125,25 @@ module _ (s : List ℕ) (at : ℕ) (h : at ≤ farthest) where
         (λ _ _. bounded-then _ _ (due-bounded tag)
         (λ _ _. bounded-then _ _ (many-bounded at h left) (λ _ e. value-bounded (g (omega (arith, eqb-false left 0 (passed _ MANY at 0 e))))))))
 
-module _ {A : Type 0} (ends : List ℕ → ℕ → Bool) (tag size : ℕ) (wrong : A → ℕ) (value : List ℕ → ℕ → A) (s : List ℕ) (within : (x : A) → wrong x ≤ 3 + size) where
+-- repeated fields, each of at most so many bytes
+module _ {A : Type 0} (ends : List ℕ → ℕ → Bool) (tag : ℕ) (size wrong : List ℕ → ℕ → ℕ) (value : List ℕ → ℕ → A) (s : List ℕ) (most : ℕ)
+    (less : (at : ℕ) → size s at ≤ most) (within : (at : ℕ) → wrong s at ≤ 3 + size s at) where
   -- one field, and what comes behind it
-  next-bounded : (left at : ℕ) (rest : Verdict (List A)) → at ≤ farthest → (0 < left → at + (3 + size) ≤ farthest) → Bounded rest
-      → Bounded (cond (ends s at) (accepted []) (repeatTest s at left tag size (wrong (value s at)) then rest))
+  next-bounded : (left at : ℕ) (rest : Verdict (List A)) → at ≤ farthest → (0 < left → at + (3 + most) ≤ farthest) → Bounded rest
+      → Bounded (cond (ends s at) (accepted []) (repeatTest s at left tag (size s at) (wrong s at) then rest))
   next-bounded left at rest h k g =
-      bounded-cond (ends s at) (accepted []) (repeatTest s at left tag size (wrong (value s at)) then rest) (bounded-accepted [])
+      bounded-cond (ends s at) (accepted []) (repeatTest s at left tag (size s at) (wrong s at) then rest) (bounded-accepted [])
       (bounded-then _ rest
-      (repeat-bounded s at h tag size (wrong (value s at)) left (λ m. omega (arith, k m, within (value s at))))
+      (repeat-bounded s at h tag (size s at) (wrong s at) left (λ m. omega (arith, k m, within at, less at)))
       (λ _ _. g))
 
-  fields-bounded : (left at : ℕ) → at + left * (3 + size) ≤ farthest → Bounded (fieldsFrom ends tag size wrong value s left at)
+  fields-bounded : (left at : ℕ) → at + left * (3 + most) ≤ farthest → Bounded (fieldsFrom ends tag size wrong value s left at)
   fields-bounded zero at h =
       rw (fields-end ends tag size wrong value s at) (next-bounded 0 at (accepted []) (omega arith) (λ m. absurd (omega arith)) (bounded-accepted []))
   fields-bounded (suc left) at h =
       rw (fields-next ends tag size wrong value s left at)
-      (next-bounded (suc left) at (more (value s at) (fieldsFrom ends tag size wrong value s left (at + 3 + size))) (omega arith) (λ m. omega arith)
-      (bounded-more (value s at) _ (fields-bounded left (at + 3 + size) (omega arith))))
+      (next-bounded (suc left) at (more (value s at) (fieldsFrom ends tag size wrong value s left (at + 3 + size s at))) (omega arith) (λ m. omega arith)
+      (bounded-more (value s at) _ (fields-bounded left (at + 3 + size s at) (omega (arith, less at)))))
 
 -- ---- CLASH and RACE: the figures are numbers of operations
 
@@ -220,25 +222,27 @@ module _ (s : List ℕ) where
       (λ _ e.
       let few = modes-few (headOf s) (head-ok s e .0 .counts) in
       let H = headOf s in
-      bounded-onwards _ _ (fields-bounded (opsDone H) 4 18 (opWrong H) opAt s (λ o. op-within H o refl) 32 (opsPlace (H .modes)) (omega arith))
+      bounded-onwards _ _ (fields-bounded (opsDone H) 4 sizeAt (wrongAt H) opAt s 20 (λ i. form-most (heldAt s i)) (λ i. op-within H (heldAt s i) (opAt s i) refl) 32 (opsPlace (H .modes)) (omega arith))
       (λ os come.
       let less = ops-passing s H _ os come .few in
       let inside = ops-ended s H _ os come .inside (omega (arith, head-ok s e .1)) in
-      behind-bounded (withOps H os) less (omega arith) (omega arith))))
+      behind-bounded (withOps H os) less (omega arith) (omega (arith, size-most os)))))
 
 -- ---- a table handed over as numbers
 
-ops-bounded : (T : Table) (ns : List ℕ) (left at : ℕ) → at + left * 21 ≤ farthest → Bounded (opsOfNumbers T ns left at)
-ops-bounded T ns zero at h =
-    rw (numbers-end T ns at)
-    (bounded-cond (eqb (length ns) 0) (accepted []) (notMany at 0 then accepted []) (bounded-accepted [])
+ops-bounded : (T : Table) (ns hs : List ℕ) (left at : ℕ) → at + left * 23 ≤ farthest → Bounded (opsOfNumbers T ns hs left at)
+ops-bounded T ns hs zero at h =
+    rw (numbers-end T ns hs at)
+    (bounded-cond (noneLeft ns hs) (accepted []) (notMany at 0 then accepted []) (bounded-accepted [])
     (bounded-then _ _ (many-bounded at (omega arith) 0) (λ _ _. bounded-accepted [])))
-ops-bounded T ns (suc left) at h =
-    rw (numbers-next T ns left at)
-    (bounded-cond (eqb (length ns) 0) (accepted []) _ (bounded-accepted [])
-    (bounded-then _ _ (place-bounded at (omega arith) (ltb (length ns) 6) SHORT (omega arith) (omega arith))
-    (λ _ _. bounded-then _ _ (ranged-bounded (opWrong T (opOfNumbers ns)) at (omega (arith, op-within T (opOfNumbers ns) refl)))
-    (λ _ _. bounded-more (opOfNumbers ns) _ (ops-bounded T (drop 6 ns) left (at + 21) (omega arith))))))
+ops-bounded T ns hs (suc left) at h =
+    let most = form-most (markedOf hs) in
+    rw (numbers-next T ns hs left at)
+    (bounded-cond (noneLeft ns hs) (accepted []) _ (bounded-accepted [])
+    (bounded-then _ _ (place-bounded at (omega arith) (ltb (length ns) 6 || ltb (length hs) 2) SHORT (omega arith) (omega arith))
+    (λ _ _. bounded-then _ _
+    (ranged-bounded (opWrong T (markedOf hs) (opOfNumbers ns hs)) at (omega (arith, op-within T (markedOf hs) (opOfNumbers ns hs) refl, most)))
+    (λ _ _. bounded-more (opOfNumbers ns hs) _ (ops-bounded T (drop 6 ns) (drop 2 hs) left (at + 3 + opSize (markedOf hs)) (omega (arith, most)))))))
 
 module _ (N : Numbers) where
   first-bounded : Bounded (numbersTest N)
@@ -254,7 +258,7 @@ module _ (N : Numbers) where
       let count : length (N .follow) ≡ N .modes = eqb-true _ _ (not-false _ (passed _ SIZE 11 0 c)) in
       let sets = sets-within (N .modes) (N .first ∷ N .follow) refl in
       bounded-then _ _ (ranged-bounded (setsWrong (N .modes) (N .first ∷ N .follow)) 11 (omega (arith, sets, count)))
-      (λ _ _. place-bounded (opsPlace (N .modes)) (omega arith) (eqb (length (N .ops)) 0) ORDER (omega arith) (omega arith))))))
+      (λ _ _. place-bounded (opsPlace (N .modes)) (omega arith) (noneLeft (N .ops) (N .holds)) ORDER (omega arith) (omega arith))))))
 
   pub numbers-bounded : Bounded (judgeNumbers N)
   numbers-bounded =
@@ -262,12 +266,12 @@ module _ (N : Numbers) where
       (bounded-then _ _ first-bounded
       (λ _ e.
       let few = modes-few (headOfNumbers N) (numbers-ok N e .0 .counts) in
-      bounded-onwards _ _ (ops-bounded (headOfNumbers N) (N .ops) 32 (opsPlace (N .modes)) (omega arith))
+      bounded-onwards _ _ (ops-bounded (headOfNumbers N) (N .ops) (N .holds) 32 (opsPlace (N .modes)) (omega arith))
       (λ os come.
       let T = withOps (headOfNumbers N) os in
-      let less = numbers-passing _ (N .ops) 32 _ os come .0 .few in
+      let less = numbers-passing _ (N .ops) (N .holds) 32 _ os come .0 .few in
       rw (judgeDecider-row (deciderOf N) T)
-      (bounded-then _ _ (ranged-bounded (deciderWrong (nops T) (deciderOf N)) (opsEnd T) (omega (arith, decider-within (nops T) (deciderOf N) refl)))
+      (bounded-then _ _ (ranged-bounded (deciderWrong (nops T) (deciderOf N)) (opsEnd T) (omega (arith, decider-within (nops T) (deciderOf N) refl, size-most os)))
       (λ _ f. whole-bounded (withDecider T (deciderOf N)) less (range-passed _ (opsEnd T) f))))))
 
 -- ---- a reply's bytes
@@ -277,7 +281,7 @@ unfolding rowsFrom
 reply-bounded s =
     rw (reply-row s)
     (bounded-then _ _ (bounded-then _ _ (field-bounded s 0 (omega arith) 17 2 _ (omega (arith, len-within (num16 s 3) refl))) (λ _ _. needed-bounded s 5 (omega arith)))
-    (λ _ _. bounded-onwards _ _ (fields-bounded atEnd 18 4 (rowWrong (ticks (num16 s 3))) rowAt s (λ r. row-within (ticks (num16 s 3)) r refl) 32 5 (omega arith)) (λ rs _. bounded-accepted _)))
+    (λ _ _. bounded-onwards _ _ (fields-bounded atEnd 18 (λ s at. 4) (λ s at. rowWrong (ticks (num16 s 3)) (rowAt s at)) rowAt s 4 (λ i. omega arith) (λ i. row-within (ticks (num16 s 3)) (rowAt s i) refl) 32 5 (omega arith)) (λ rs _. bounded-accepted _)))
 
 -- a refusal of a table's bytes
 pub figures-small : (s : List ℕ) (n a b : ℕ) → judge s ≡ refused n a b → Small n a b

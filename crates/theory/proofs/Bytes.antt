@@ -2,22 +2,23 @@
 -- Assumes nothing.
 use Prim.Native.Nat.{ℕ, zero, suc, _+_, _*_, _/_, _%_, _^_, _<_, _≤_}
 use mathlib.Core.Path.{_≡_, refl, sym, ap, _∙_}
-use mathlib.Core.Bool.{Bool, true, false, cond}
+use mathlib.Core.Bool.{Bool, true, false, not, cond}
 use mathlib.Core.List.{List, [], _∷_, _++_, append-assoc}
 use native.Mathlib.Nat.{div-div-eq-div-mul}
 use native.Mathlib.Omega.{arith}
-use lib.Dec.{leb, eqb·suc-zero}
+use lib.Dec.{leb, eqb, eqb·suc-zero}
 use lib.ListN.{length, getD, length-append, length-map}
 use lib.Seq.{getD-append-add}
-use borrow.Author.Tests.{le-leb, lt-leb, le-ltb, eq-eqb, ne-eqb}
+use borrow.Author.Tests.{le-leb, lt-leb, le-ltb, lt-ltb, eq-eqb, ne-eqb}
 use Rattle.rules.specs.Table.{Op, Decider, nobody, decides, Table, nops}
 use Rattle.rules.specs.Rows.{Reply, replyOf}
-use Rattle.rules.specs.Verdicts.{Verdict, accepted, refused, ORDER, SIZE, MANY, Test, _then_, more}
-use Rattle.rules.specs.Bytes.{num8, num16, num32, words, be32, joined, opBytes, headBytes, deciderBytes, opAt, tableBytes, rowBytes, replyBytes}
-use Rattle.rules.specs.Judge.{notMany, ranged, fieldTest, repeatTest, atEnd, fieldsFrom, deciderWrong, nothingDue, deciderAt, deciderTest}
+use Rattle.rules.specs.Verdicts.{Verdict, accepted, refused, SHORT, ORDER, SIZE, MANY, Test, _then_, more}
+use Rattle.rules.specs.Bytes.{num8, num16, num32, words, be32, joined, opSize, opForm, opBytes, headBytes, deciderBytes, heldAt, readOp, opAt, tableBytes, rowBytes, replyBytes}
+use Rattle.rules.specs.Judge.{notMany, sized, complete, ranged, fieldTest, repeatTest, atEnd, fieldsFrom, deciderWrong, opsSize, nothingDue, deciderAt, deciderTest}
+use Rattle.theory.specs.Holds.{Plain}
 use Rattle.theory.specs.Numbers.{OpFits}
 use Rattle.theory.proofs.Ranges.{ranged-yes, decider-none}
-use Rattle.theory.proofs.Verdicts.{passes, then-accepts, then-none, more-accepts}
+use Rattle.theory.proofs.Verdicts.{passes, refuses, then-accepts, then-refuses, then-none, more-accepts}
 use Rattle.theory.proofs.Judging.{decider-row, nothing-row}
 
 -- ---- numbers in bytes
@@ -52,16 +53,36 @@ module _ (pre post : List ℕ) (n : ℕ) (place : n ≡ length pre) where
   num32-back : (x : ℕ) → x < 2 ^ 32 → num32 (pre ++ (be32 x ++ post)) n ≡ x
   num32-back x h = past32 pre (be32 x ++ post) n 0 (omega arith) ∙ four-bytes x h
 
-  pub op-back : (o : Op) → OpFits o → opAt (pre ++ (opBytes o ++ post)) n ≡ o
-  op-back o h =
-      let s = opBytes o ++ post in
+  -- an operation of either form, its form first
+  pub form-back : (held : Bool) (o : Op) → heldAt (pre ++ (opForm held o ++ post)) n ≡ held
+  form-back false o = ap (λ (x : ℕ). eqb x 20) (past16 pre (opForm false o ++ post) (n + 1) 1 (omega arith))
+  form-back true o = ap (λ (x : ℕ). eqb x 20) (past16 pre (opForm true o ++ post) (n + 1) 1 (omega arith))
+
+  numbers-back : (held : Bool) (o : Op) → OpFits o → Plain held o → readOp held (pre ++ (opForm held o ++ post)) n ≡ o
+  numbers-back false o h plain =
+      let s = opForm false o ++ post in
       let start = past16 pre s (n + 3) 3 (omega arith) ∙ two-bytes (o .start) (h .start) in
       let dur = past16 pre s (n + 5) 5 (omega arith) ∙ two-bytes (o .dur) (h .dur) in
+      let hold : 0 ≡ o .hold = sym (plain refl) in
       let boards = past16 pre s (n + 7) 7 (omega arith) ∙ two-bytes (o .boards) (h .boards) in
       let reads = past32 pre s (n + 9) 9 (omega arith) ∙ four-bytes (o .reads) (h .reads) in
       let writes = past32 pre s (n + 13) 13 (omega arith) ∙ four-bytes (o .writes) (h .writes) in
       let modes = past32 pre s (n + 17) 17 (omega arith) ∙ four-bytes (o .modes) (h .modes) in
-      λ i. record { start = start i; dur = dur i; boards = boards i; reads = reads i; writes = writes i; modes = modes i }
+      λ i. record { start = start i; dur = dur i; hold = hold i; boards = boards i; reads = reads i; writes = writes i; modes = modes i }
+  numbers-back true o h plain =
+      let s = opForm true o ++ post in
+      let start = past16 pre s (n + 3) 3 (omega arith) ∙ two-bytes (o .start) (h .start) in
+      let dur = past16 pre s (n + 5) 5 (omega arith) ∙ two-bytes (o .dur) (h .dur) in
+      let hold = past16 pre s (n + 7) 7 (omega arith) ∙ two-bytes (o .hold) (h .hold) in
+      let boards = past16 pre s (n + 9) 9 (omega arith) ∙ two-bytes (o .boards) (h .boards) in
+      let reads = past32 pre s (n + 11) 11 (omega arith) ∙ four-bytes (o .reads) (h .reads) in
+      let writes = past32 pre s (n + 15) 15 (omega arith) ∙ four-bytes (o .writes) (h .writes) in
+      let modes = past32 pre s (n + 19) 19 (omega arith) ∙ four-bytes (o .modes) (h .modes) in
+      λ i. record { start = start i; dur = dur i; hold = hold i; boards = boards i; reads = reads i; writes = writes i; modes = modes i }
+
+  pub op-back : (held : Bool) (o : Op) → OpFits o → Plain held o → opAt (pre ++ (opForm held o ++ post)) n ≡ o
+  unfolding opAt
+  op-back held o h plain = ap (λ (b : Bool). readOp b (pre ++ (opForm held o ++ post)) n) (form-back held o) ∙ numbers-back held o h plain
 
 pub words-back : (ws pre post : List ℕ) (n : ℕ) → n ≡ length pre → ((a : ℕ) → a < length ws → getD ws a 0 < 2 ^ 32)
     → words (pre ++ (joined be32 ws ++ post)) n (length ws) ≡ ws
@@ -84,22 +105,18 @@ joined-length f w h (x ∷ xs) = omega (arith, length-append (f x) (joined f xs)
 pub words-length : (ws : List ℕ) → length (joined be32 ws) ≡ 4 * length ws
 words-length = joined-length be32 4 (λ x. refl)
 
-ops-length : (os : List Op) → length (joined opBytes os) ≡ 21 * length os
-ops-length = joined-length opBytes 21 (λ o. refl)
-
 pub head-length : (T : Table) → length (headBytes T) ≡ 18 + 4 * length (T .follow)
 head-length T = omega (arith, words-length (T .follow))
 
 pub table-length : (T : Table)
-    → length (tableBytes T) ≡ 18 + 4 * length (T .follow) + 21 * nops T + length (deciderBytes (T .decider))
-unfolding tableBytes
+    → length (tableBytes T) ≡ 18 + 4 * length (T .follow) + opsSize (T .ops) + length (deciderBytes (T .decider))
+unfolding tableBytes opsSize
 table-length T =
     omega (
       arith,
       length-append (headBytes T) (joined opBytes (T .ops) ++ deciderBytes (T .decider)),
       length-append (joined opBytes (T .ops)) (deciderBytes (T .decider)),
       head-length T,
-      ops-length (T .ops),
     )
 
 pub reply-length : (R : Reply) → length (replyBytes R) ≡ 5 + 7 * length (R .rows)
@@ -148,31 +165,47 @@ module _ (s : List ℕ) (at tag size wrong : ℕ) (t : num8 s at ≡ tag) where
           le-ltb (length s) (at + 3 + size) h,
         )
 
--- one more may come
-spare : (at left : ℕ) → notMany at (suc left) ≡ accepted tt
+-- one more may come, and none
+pub spare : (at left : ℕ) → notMany at (suc left) ≡ accepted tt
 unfolding notMany
 spare at left = passes _ _ _ _ (eqb·suc-zero left)
+
+pub no-more : (at : ℕ) → notMany at 0 ≡ refused MANY at 0
+unfolding notMany
+no-more at = refuses _ _ _ _ refl
+
+-- of a header alone the count is tested, and then the length of the value, which is short of it
+module _ (s : List ℕ) (at tag size wrong : ℕ) (t : num8 s at ≡ tag) (h : at + 3 ≤ length s) where
+  pub repeat-cut : (left : ℕ) → repeatTest s at left tag size wrong ≡ (notMany at left then sized s at size then complete s at size then ranged wrong at)
+  unfolding repeatTest
+  repeat-cut left = simp (le-ltb (length s) (at + 3) h, eq-eqb (num8 s at) tag t)
+
+pub value-cut : (s : List ℕ) (at size wrong : ℕ) → num16 s (at + 1) ≡ size → length s < at + 3 + size
+    → (sized s at size then complete s at size then ranged wrong at) ≡ refused SHORT at 0
+unfolding sized complete
+value-cut s at size wrong z h =
+    then-accepts _ (passes _ SIZE at 0 (ap not (eq-eqb (num16 s (at + 1)) size z))) ∙ then-refuses _ (refuses _ SHORT at 0 (lt-ltb (length s) (at + 3 + size) h))
 
 -- ---- repeated fields
 
 -- the verdict on repeated fields by what is written in them, when `left` more may come and the next is at a place
-unfoldable pub fieldsOf : {A : Type 0} → ℕ → (A → ℕ) → List A → ℕ → ℕ → Verdict (List A)
+unfoldable pub fieldsOf : {A : Type 0} → (A → ℕ) → (A → ℕ) → List A → ℕ → ℕ → Verdict (List A)
 unfolding ranged more _then_
 fieldsOf size wrong [] left at = accepted []
 fieldsOf size wrong (x ∷ xs) zero at = refused MANY at 0
-fieldsOf size wrong (x ∷ xs) (suc left) at = ranged (wrong x) at then more x (fieldsOf size wrong xs left (at + 3 + size))
+fieldsOf size wrong (x ∷ xs) (suc left) at = ranged (wrong x) at then more x (fieldsOf size wrong xs left (at + 3 + size x))
 
 -- those in their ranges are accepted, if they are not too many
-pub fields-accepted : {A : Type 0} (d : A) (size : ℕ) (wrong : A → ℕ) (xs : List A) (left at : ℕ) → length xs ≤ left
+pub fields-accepted : {A : Type 0} (d : A) (size wrong : A → ℕ) (xs : List A) (left at : ℕ) → length xs ≤ left
     → ((i : ℕ) → i < length xs → wrong (getD xs i d) ≡ 0) → fieldsOf size wrong xs left at ≡ accepted xs
 unfolding fieldsOf
 fields-accepted d size wrong [] left at few h = refl
 fields-accepted d size wrong (x ∷ xs) zero at few h = absurd (omega arith)
 fields-accepted d size wrong (x ∷ xs) (suc left) at few h =
     then-accepts _ (ranged-yes (wrong x) at (h 0 (omega arith)))
-    ∙ more-accepts x (fields-accepted d size wrong xs left (at + 3 + size) (omega arith) (λ i b. h (suc i) (omega arith)))
+    ∙ more-accepts x (fields-accepted d size wrong xs left (at + 3 + size x) (omega arith) (λ i b. h (suc i) (omega arith)))
 
-module _ {A : Type 0} (ends : List ℕ → ℕ → Bool) (tag size : ℕ) (wrong : A → ℕ) (value : List ℕ → ℕ → A) (s : List ℕ) (at : ℕ) where
+module _ {A : Type 0} (ends : List ℕ → ℕ → Bool) (tag : ℕ) (size wrong : List ℕ → ℕ → ℕ) (value : List ℕ → ℕ → A) (s : List ℕ) (at : ℕ) where
   -- none where they end
   pub no-field : (left : ℕ) → ends s at ≡ true → fieldsFrom ends tag size wrong value s left at ≡ accepted []
   unfolding fieldsFrom
@@ -180,17 +213,17 @@ module _ {A : Type 0} (ends : List ℕ → ℕ → Bool) (tag size : ℕ) (wrong
   no-field (suc left) h = rw h
 
   -- one whole field, where no more may come and where one may
-  module _ (on : ends s at ≡ false) (t : num8 s at ≡ tag) (h : at + 3 + size ≤ length s) (z : num16 s (at + 1) ≡ size) where
+  module _ (on : ends s at ≡ false) (t : num8 s at ≡ tag) (h : at + 3 + size s at ≤ length s) (z : num16 s (at + 1) ≡ size s at) where
     pub field-many : fieldsFrom ends tag size wrong value s 0 at ≡ refused MANY at 0
     unfolding fieldsFrom
-    field-many = simp (on, repeat-whole s at tag size (wrong (value s at)) t h z 0)
+    field-many = simp (on, repeat-whole s at tag (size s at) (wrong s at) t h z 0)
 
     pub field-more : (left : ℕ)
         → fieldsFrom ends tag size wrong value s (suc left) at
-        ≡ (ranged (wrong (value s at)) at then more (value s at) (fieldsFrom ends tag size wrong value s left (at + 3 + size)))
+        ≡ (ranged (wrong s at) at then more (value s at) (fieldsFrom ends tag size wrong value s left (at + 3 + size s at)))
     unfolding fieldsFrom
     field-more left =
-        simp (on, repeat-whole s at tag size (wrong (value s at)) t h z (suc left) ∙ then-accepts _ (spare at left))
+        simp (on, repeat-whole s at tag (size s at) (wrong s at) t h z (suc left) ∙ then-accepts _ (spare at left))
 
   -- a field with another tag
   pub field-order : (left : ℕ) → ends s at ≡ false → at + 3 ≤ length s → (num8 s at ≡ tag → ⊥) → fieldsFrom ends tag size wrong value s (suc left) at ≡ refused ORDER at 0
@@ -256,28 +289,36 @@ module _ {A : Type 0} {tag size : ℕ} {value : List ℕ → ℕ → A} {bytes :
   -- fields that are written one after the other are judged by what is written in them
   pub fields-back : (d : A) (wrong : A → ℕ) (xs : List A) (pre : List ℕ) (left n : ℕ) → n ≡ length pre
       → ((i : ℕ) → i < length xs → Fits (getD xs i d))
-      → fieldsFrom atEnd tag size wrong value (pre ++ joined bytes xs) left n ≡ fieldsOf size wrong xs left n
+      → fieldsFrom atEnd tag (λ s at. size) (λ s at. wrong (value s at)) value (pre ++ joined bytes xs) left n ≡ fieldsOf (λ x. size) wrong xs left n
   unfolding joined fieldsOf
   fields-back d wrong [] pre left n place h =
-      no-field atEnd tag size wrong value (pre ++ []) n left (le-leb (length (pre ++ [])) n (omega (arith, length-append pre [])))
+      no-field atEnd tag _ _ value (pre ++ []) n left (le-leb (length (pre ++ [])) n (omega (arith, length-append pre [])))
   fields-back d wrong (x ∷ xs) pre zero n place h =
       let rest = joined bytes xs in
-      field-many atEnd tag size wrong value _ n (first-there x pre rest n place) (first-tag x pre rest n place) (first-whole x pre rest n place)
+      field-many atEnd tag (λ s at. size) (λ s at. wrong (value s at)) value _ n (first-there x pre rest n place) (first-tag x pre rest n place) (first-whole x pre rest n place)
       (first-size x pre rest n place)
   fields-back d wrong (x ∷ xs) pre (suc left) n place h =
       let rest = joined bytes xs in
       let first = is .back x (h 0 (omega arith)) pre rest n place in
       let place′ : n + 3 + size ≡ length (pre ++ bytes x) = omega (arith, length-append pre (bytes x), is .width x) in
       let more = fields-back d wrong xs (pre ++ bytes x) left (n + 3 + size) place′ (λ i b. h (suc i) (omega arith)) in
-      field-more atEnd tag size wrong value _ n (first-there x pre rest n place) (first-tag x pre rest n place) (first-whole x pre rest n place)
+      field-more atEnd tag (λ s at. size) (λ s at. wrong (value s at)) value _ n (first-there x pre rest n place) (first-tag x pre rest n place) (first-whole x pre rest n place)
       (first-size x pre rest n place) left
       ∙ rw (first, ← append-assoc, more)
 
-pub op-repeated : Repeated 4 18 opAt opBytes OpFits
-op-repeated =
+-- an operation, in either form
+pub op-repeated : (held : Bool) → Repeated 4 (opSize held) opAt (opForm held) (λ o. OpFits o × Plain held o)
+op-repeated false =
     record {
       width = λ o. refl;
       tagged = λ o post. refl;
       sized = λ o post. refl;
-      back = λ o h pre post n place. op-back pre post n place o h;
+      back = λ o h pre post n place. op-back pre post n place false o (h .0) (h .1);
+    }
+op-repeated true =
+    record {
+      width = λ o. refl;
+      tagged = λ o post. refl;
+      sized = λ o post. refl;
+      back = λ o h pre post n place. op-back pre post n place true o (h .0) (h .1);
     }

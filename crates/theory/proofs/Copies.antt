@@ -2,6 +2,7 @@
 -- Assumes nothing.
 use Prim.Native.Nat.{ℕ, zero, suc, _+_, _*_, _/_, _%_, _<_, _≤_}
 use mathlib.Core.Path.{_≡_, refl, sym, ap, subst, _∙_}
+use mathlib.Core.Bool.{Bool, true, false}
 use mathlib.Core.List.{List, [], _∷_, _++_, append-assoc, append-nil}
 use native.Mathlib.Decide.{decLt}
 use native.Mathlib.Omega.{arith}
@@ -11,10 +12,10 @@ use lib.Seq.{drop-cons, drop-length}
 use borrow.Author.Tests.{leb-true, eqb-true, not-false}
 use Rattle.rules.specs.Table.{Op, Table}
 use Rattle.rules.specs.Verdicts.{accepted, ORDER, SIZE}
-use Rattle.rules.specs.Bytes.{num8, num16, num32, words, be16, be32, joined, opAt, opBytes, headBytes, deciderBytes, tableBytes}
-use Rattle.rules.specs.Judge.{due, sized, fieldTest, repeatTest, fieldsFrom, opWrong, headOf, withOps, withDecider, opsPlace, opsEnd, headTest, opsDone, opsFrom, deciderAt, deciderTest, judge}
+use Rattle.rules.specs.Bytes.{num8, num16, num32, words, be16, be32, joined, opSize, opForm, settles, opBytes, heldAt, readOp, opAt, headBytes, deciderBytes, tableBytes}
+use Rattle.rules.specs.Judge.{due, sized, fieldTest, repeatTest, fieldsFrom, headOf, withOps, withDecider, opsPlace, opsSize, opsEnd, headTest, opsDone, sizeAt, wrongAt, opsFrom, deciderAt, deciderTest, judge}
 use Rattle.theory.proofs.Verdicts.{passed, then-first, then-rest}
-use Rattle.theory.proofs.Judging.{field-row, repeat-row, field-passed, repeat-passed, both, fields-all, head-row, head-ok, judge-row, decider-row, nothing-passed, parts-inside, judge-parts, whole-accepted}
+use Rattle.theory.proofs.Judging.{field-row, repeat-row, field-passed, repeat-passed, own-form, plain-at, both, fields-all, size-none, size-more, head-row, head-ok, judge-row, decider-row, nothing-passed, parts-inside, judge-parts, whole-accepted}
 use Rattle.theory.proofs.Bytes.{words-length}
 
 module _ (s : List ℕ) (small : (i : ℕ) → i < length s → getD s i 0 < 256) where
@@ -111,8 +112,8 @@ module _ (s : List ℕ) (small : (i : ℕ) → i < length s → getD s i 0 < 256
   header-spelt at tag size b h e =
       rw (h .tag-is, h .size-is) at (one at (at + 1) refl (omega arith) and-then two (at + 1) b (omega arith) (omega arith))
 
-  op-spelt : (at b : ℕ) → Header at 4 18 → b ≡ at + 3 + 18 → Spelt (opBytes (opAt s at)) at b
-  op-spelt at b h e =
+  form-spelt : (held : Bool) (at b : ℕ) → Header at 4 (opSize held) → b ≡ at + 3 + opSize held → Spelt (opForm held (readOp held s at)) at b
+  form-spelt false at b h e =
       header-spelt at 4 18 (at + 3) h refl
       and-then two (at + 3) (at + 5) (omega arith) (omega arith)
       and-then two (at + 5) (at + 7) (omega arith) (omega arith)
@@ -120,16 +121,33 @@ module _ (s : List ℕ) (small : (i : ℕ) → i < length s → getD s i 0 < 256
       and-then four (at + 9) (at + 13) (omega arith) (omega arith)
       and-then four (at + 13) (at + 17) (omega arith) (omega arith)
       and-then four (at + 17) b (omega arith) (omega arith)
+  form-spelt true at b h e =
+      header-spelt at 4 20 (at + 3) h refl
+      and-then two (at + 3) (at + 5) (omega arith) (omega arith)
+      and-then two (at + 5) (at + 7) (omega arith) (omega arith)
+      and-then two (at + 7) (at + 9) (omega arith) (omega arith)
+      and-then two (at + 9) (at + 11) (omega arith) (omega arith)
+      and-then four (at + 11) (at + 15) (omega arith) (omega arith)
+      and-then four (at + 15) (at + 19) (omega arith) (omega arith)
+      and-then four (at + 19) b (omega arith) (omega arith)
+
+  -- an operation that passes is written in the form that it was read in: a hold of 0 does not pass
+  op-spelt : (at b : ℕ) → heldAt s at ≡ settles (opAt s at) → Header at 4 (sizeAt s at) → b ≡ at + 3 + sizeAt s at → Spelt (opBytes (opAt s at)) at b
+  unfolding opBytes opAt
+  op-spelt at b form h e =
+      subst (λ (held : Bool). Spelt (opForm held (readOp (heldAt s at) s at)) at b) form (form-spelt (heldAt s at) at b h e)
 
   -- the operations stand one after the other, up to where they end
-  ops-spelt : (H : Table) (left at : ℕ) (os : List Op) → fieldsFrom (opsDone H) 4 18 (opWrong H) opAt s left at ≡ accepted os
-      → (b : ℕ) → b ≡ at + 21 * length os → Spelt (joined opBytes os) at b
+  ops-spelt : (H : Table) (left at : ℕ) (os : List Op) → fieldsFrom (opsDone H) 4 sizeAt (wrongAt H) opAt s left at ≡ accepted os
+      → (b : ℕ) → b ≡ at + opsSize os → Spelt (joined opBytes os) at b
   unfolding joined
   ops-spelt H =
-      fields-all (opsDone H) 4 18 (opWrong H) opAt s (λ left at os. (b : ℕ) → b ≡ at + 21 * length os → Spelt (joined opBytes os) at b)
-      (λ left at _ b e. nil at b (omega arith))
+      fields-all (opsDone H) 4 sizeAt (wrongAt H) opAt s (λ left at os. (b : ℕ) → b ≡ at + opsSize os → Spelt (joined opBytes os) at b)
+      (λ left at _ b e. nil at b (omega (arith, size-none)))
       (λ left at os come rest b e.
-      op-spelt at (at + 3 + 18) (repeat-header at (suc left) 4 18 _ come) refl and-then rest b (omega arith))
+      let form = own-form H (heldAt s at) (opAt s at) (plain-at s at) (repeat-passed s at 4 (sizeAt s at) _ (suc left) come .2) in
+      op-spelt at (at + 3 + sizeAt s at) form (repeat-header at (suc left) 4 (sizeAt s at) _ come) refl
+      and-then rest b (omega (arith, size-more (opAt s at) os, ap opSize form)))
 
   -- and behind them who decides, up to the end
   decider-spelt : (at n : ℕ) → deciderTest s at n ≡ accepted tt → at ≤ length s → Spelt (deciderBytes (deciderAt s at)) at (length s)

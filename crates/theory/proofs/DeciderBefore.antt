@@ -1,7 +1,7 @@
 -- Document 02, No. 4: "Without the field the table reads as before." Every input has the verdict that it had, but for those that were refused because
 -- a field 05 was not due; numbers without a mark have the verdict that they had. And which periods are right does not depend on who decides.
 -- Assumes nothing.
-use Prim.Native.Nat.{ℕ, zero, suc, _+_, _*_, _<_, _≤_}
+use Prim.Native.Nat.{ℕ, zero, suc, _+_, _<_, _≤_}
 use mathlib.Core.Path.{_≡_, refl, sym, ap, subst, _∙_}
 use mathlib.Core.Bool.{Bool, not, cond}
 use mathlib.Core.List.{List, [], _∷_}
@@ -13,14 +13,15 @@ use borrow.Author.Tests.{le-leb, lt-leb, leb-true, leb-false, ne-eqb, eq-eqb}
 use Rattle.rules.specs.Table.{Op, Decider, nobody, Table, nops}
 use Rattle.rules.specs.Runs.{IsRun, Runs, Source, BoardsRightAt, ValuesRightAt, Right}
 use Rattle.rules.specs.Verdicts.{Verdict, accepted, refused, ORDER, CLASH, RACE, Test, _then_, onwards, more}
-use Rattle.rules.specs.Bytes.{num8, opAt}
-use Rattle.rules.specs.Judge.{needed, header, due, fieldTest, repeatTest, atEnd, opWrong, deciderWrong, clashes, races, pairsTest, earlyTest, judgeWhole, headOf, withOps, withDecider, opsPlace, opsEnd, headTest, opsDone, opsFrom, nothingDue, deciderAt, judgeBehind, judge, Numbers, headOfNumbers, deciderOf, opsOfNumbers, judgeDecider, judgeNumbers}
+use Rattle.rules.specs.Bytes.{num8, opSize, heldAt, opAt}
+use Rattle.rules.specs.Judge.{needed, header, due, fieldTest, repeatTest, atEnd, deciderWrong, clashes, races, pairsTest, earlyTest, judgeWhole, headOf, withOps, withDecider, opsPlace, opsSize, opsEnd, headTest, opsDone, sizeAt, wrongAt, opsFrom, nothingDue, deciderAt, judgeBehind, judge, Numbers, headOfNumbers, deciderOf, opsOfNumbers, judgeDecider, judgeNumbers}
+use Rattle.theory.specs.Holds.{opWidth}
 use Rattle.theory.specs.DeciderBefore.{wholeBefore, opsBefore, judgeBefore, numbersBefore}
 use Rattle.theory.proofs.Says.{Known, holds, fails, known, clash-bool}
 use Rattle.theory.proofs.Verdicts.{never-refused, passes, refuses, then-accepts, then-refuses, then-again, then-assoc, onwards-accepts, onwards-refuses, onwards-same, more-accepts, more-first}
 use Rattle.theory.proofs.Ranges.{ranged-yes, decider-none}
 use Rattle.theory.proofs.Early.{no-early}
-use Rattle.theory.proofs.Judging.{repeat-row, repeat-passed, field-row, fields-end, fields-next, whole-row, done-end, done-is, judge-row, behind-row, decider-row, judgeNumbers-row, judgeDecider-row}
+use Rattle.theory.proofs.Judging.{repeat-row, repeat-passed, field-row, fields-end, fields-next, own-form, plain-at, size-none, size-more, whole-row, done-end, done-is, judge-row, behind-row, decider-row, judgeNumbers-row, judgeDecider-row}
 
 -- ---- the last tests: where nobody decides there is none more
 whole-before : (T : Table) → T .decider ≡ nobody → judgeWhole T ≡ wholeBefore T
@@ -38,7 +39,7 @@ numbers-before N unset =
     let who : deciderOf N ≡ nobody = rw (eq-eqb (N .mark) 0 unset) in
     judgeNumbers-row N
     ∙ then-again _
-    (onwards-same (opsOfNumbers H (N .ops) 32 (opsPlace (N .modes))) (λ os. judgeDecider (deciderOf N) (withOps H os)) (λ os. wholeBefore (withOps H os))
+    (onwards-same (opsOfNumbers H (N .ops) (N .holds) 32 (opsPlace (N .modes))) (λ os. judgeDecider (deciderOf N) (withOps H os)) (λ os. wholeBefore (withOps H os))
     (λ os _.
     ap (λ (x : Decider). judgeDecider x (withOps H os)) who
     ∙ judgeDecider-row nobody (withOps H os)
@@ -60,33 +61,34 @@ head-nobody s = refl
 module _ (T : Table) (s : List ℕ) where
   -- the tests at one place, before and now
   was-end : (at : ℕ)
-      → opsBefore T s zero at ≡ cond (leb (length s) at) (accepted []) (repeatTest s at 0 4 18 (opWrong T (opAt s at)) then accepted [])
+      → opsBefore T s zero at ≡ cond (leb (length s) at) (accepted []) (repeatTest s at 0 4 (sizeAt s at) (wrongAt T s at) then accepted [])
   unfolding opsBefore
-  was-end at = fields-end atEnd 4 18 (opWrong T) opAt s at
+  was-end at = fields-end atEnd 4 sizeAt (wrongAt T) opAt s at
 
-  is-end : (at : ℕ) → opsFrom T s zero at ≡ cond (opsDone T s at) (accepted []) (repeatTest s at 0 4 18 (opWrong T (opAt s at)) then accepted [])
+  is-end : (at : ℕ)
+      → opsFrom T s zero at ≡ cond (opsDone T s at) (accepted []) (repeatTest s at 0 4 (sizeAt s at) (wrongAt T s at) then accepted [])
   unfolding opsFrom
-  is-end at = fields-end (opsDone T) 4 18 (opWrong T) opAt s at
+  is-end at = fields-end (opsDone T) 4 sizeAt (wrongAt T) opAt s at
 
   was-next : (left at : ℕ)
       → opsBefore T s (suc left) at
       ≡ cond (leb (length s) at) (accepted [])
-      (repeatTest s at (suc left) 4 18 (opWrong T (opAt s at)) then more (opAt s at) (opsBefore T s left (at + 3 + 18)))
+      (repeatTest s at (suc left) 4 (sizeAt s at) (wrongAt T s at) then more (opAt s at) (opsBefore T s left (at + 3 + sizeAt s at)))
   unfolding opsBefore
-  was-next left at = fields-next atEnd 4 18 (opWrong T) opAt s left at
+  was-next left at = fields-next atEnd 4 sizeAt (wrongAt T) opAt s left at
 
   is-next : (left at : ℕ)
       → opsFrom T s (suc left) at
       ≡ cond (opsDone T s at) (accepted [])
-      (repeatTest s at (suc left) 4 18 (opWrong T (opAt s at)) then more (opAt s at) (opsFrom T s left (at + 3 + 18)))
+      (repeatTest s at (suc left) 4 (sizeAt s at) (wrongAt T s at) then more (opAt s at) (opsFrom T s left (at + 3 + sizeAt s at)))
   unfolding opsFrom
-  is-next left at = fields-next (opsDone T) 4 18 (opWrong T) opAt s left at
+  is-next left at = fields-next (opsDone T) 4 sizeAt (wrongAt T) opAt s left at
 
   -- what was said of the operations' fields from a place on, and what is said now: the same, and where they are accepted the input ends behind
   -- them; or they end before a field 05, which was not due
   data Beside (at : ℕ) (was is : Verdict (List Op)) : Type 0 where
-    alike : was ≡ is → ((os : List Op) → is ≡ accepted os → length s ≤ at + 21 * length os) → Beside at was is
-    stopped : (os : List Op) (place : ℕ) → place ≡ at + 21 * length os → is ≡ accepted os → place < length s → num8 s place ≡ 5
+    alike : was ≡ is → ((os : List Op) → is ≡ accepted os → length s ≤ at + opsSize os) → Beside at was is
+    stopped : (os : List Op) (place : ℕ) → place ≡ at + opsSize os → is ≡ accepted os → place < length s → num8 s place ≡ 5
         → was ≡ (header s place then refused ORDER place 0) → Beside at was is
 
   -- said of other words for the same verdicts
@@ -95,22 +97,23 @@ module _ (T : Table) (s : List ℕ) where
       subst (λ (v : Verdict (List Op)). Beside at v is) (sym e) (subst (λ (w : Verdict (List Op)). Beside at was′ w) (sym f) x)
 
   -- a field 05 was not due
-  not-due : (left wrong at : ℕ) (v : Verdict (List Op)) → num8 s at ≡ 5 → (repeatTest s at left 4 18 wrong then v) ≡ (header s at then refused ORDER at 0)
+  not-due : (left size wrong at : ℕ) (v : Verdict (List Op)) → num8 s at ≡ 5
+      → (repeatTest s at left 4 size wrong then v) ≡ (header s at then refused ORDER at 0)
   unfolding due
-  not-due left wrong at v five =
-      ap (λ (t : Test). t then v) (repeat-row s at 4 18 wrong left)
+  not-due left size wrong at v five =
+      ap (λ (t : Test). t then v) (repeat-row s at 4 size wrong left)
       ∙ then-assoc (header s at) _ v
       ∙ then-again (header s at) (then-refuses v (then-refuses _ (refuses _ ORDER at 0 (ap not (ne-eqb (num8 s at) 4 (λ e. omega arith))))))
 
   -- one field and what comes behind it
-  beside-field : (left wrong at : ℕ) (v w : Verdict (List Op))
-      → (repeatTest s at left 4 18 wrong ≡ accepted tt → Beside at v w)
-      → Beside at (cond (leb (length s) at) (accepted []) (repeatTest s at left 4 18 wrong then v))
-      (cond (opsDone T s at) (accepted []) (repeatTest s at left 4 18 wrong then w))
-  beside-field left wrong at v w rest = go (known (leb (length s) at)) (known (opsDone T s at))
+  beside-field : (left size wrong at : ℕ) (v w : Verdict (List Op))
+      → (repeatTest s at left 4 size wrong ≡ accepted tt → Beside at v w)
+      → Beside at (cond (leb (length s) at) (accepted []) (repeatTest s at left 4 size wrong then v))
+      (cond (opsDone T s at) (accepted []) (repeatTest s at left 4 size wrong then w))
+  beside-field left size wrong at v w rest = go (known (leb (length s) at)) (known (opsDone T s at))
     where
       test : Test
-      test = repeatTest s at left 4 18 wrong
+      test = repeatTest s at left 4 size wrong
 
       tested : (t : Test) → test ≡ t → Beside at (test then v) (test then w)
       tested (accepted x) e = beside-as (then-accepts v e) (then-accepts w e) (rest e)
@@ -127,26 +130,33 @@ module _ (T : Table) (s : List ℕ) where
           (alike none (λ os e. omega (arith, leb-true (length s) at b)))
       go (fails b) (holds d) =
           let five = done-is T s at d (leb-false (length s) at b) in
-          stopped [] at (omega arith) (rw d) (leb-false (length s) at b) five (rw b (not-due left wrong at v five))
+          stopped [] at (omega (arith, size-none)) (rw d) (leb-false (length s) at b) five (rw b (not-due left size wrong at v five))
       go (fails b) (fails d) = beside-as (rw b) (rw d) (tested test refl)
 
-  -- one operation more in front
+  -- one operation more in front, written in the bytes that were passed over
   more-order : (x : Op) (t : Test) (place : ℕ) → more x (t then refused ORDER place 0) ≡ (t then refused ORDER place 0)
   unfolding more _then_
   more-order x (accepted y) place = refl
   more-order x (refused n a b) place = refl
 
-  beside-more : (x : Op) {at : ℕ} {was is : Verdict (List Op)} → Beside (at + 3 + 18) was is → Beside at (more x was) (more x is)
-  beside-more x {at} {was} {is} (alike e f) =
-      alike (ap (more x) e) (λ os h. let (us, come, whole) = more-first x is h in omega (arith, f us come, ap (λ (l : List Op). length l) whole))
-  beside-more x (stopped os place e come less five old) =
-      stopped (x ∷ os) place (omega arith) (more-accepts x come) less five (ap (more x) old ∙ more-order x (header s place) place)
+  beside-more : (x : Op) {at next : ℕ} {was is : Verdict (List Op)} → next ≡ at + opWidth x → Beside next was is → Beside at (more x was) (more x is)
+  beside-more x {at} {next} {was} {is} width (alike e f) =
+      alike (ap (more x) e)
+      (λ os h. let (us, come, whole) = more-first x is h in omega (arith, width, f us come, ap opsSize whole, size-more x us))
+  beside-more x width (stopped os place e come less five old) =
+      stopped (x ∷ os) place (omega (arith, width, e, size-more x os)) (more-accepts x come) less five (ap (more x) old ∙ more-order x (header s place) place)
+
+  field-width : (left at : ℕ) → repeatTest s at (suc left) 4 (sizeAt s at) (wrongAt T s at) ≡ accepted tt → at + 3 + sizeAt s at ≡ at + opWidth (opAt s at)
+  field-width left at e =
+      omega (arith, ap opSize (own-form T (heldAt s at) (opAt s at) (plain-at s at) (repeat-passed s at 4 (sizeAt s at) _ (suc left) e .2)))
 
   beside-ops : (left at : ℕ) → Beside at (opsBefore T s left at) (opsFrom T s left at)
   beside-ops zero at =
       beside-as (was-end at) (is-end at)
-      (beside-field 0 _ at (accepted []) (accepted []) (λ e. clash-bool refl (repeat-passed s at 4 18 _ 0 e .0)))
-  beside-ops (suc left) at = beside-as (was-next left at) (is-next left at) (beside-field (suc left) _ at _ _ (λ _. beside-more (opAt s at) (beside-ops left (at + 3 + 18))))
+      (beside-field 0 _ _ at (accepted []) (accepted []) (λ e. clash-bool refl (repeat-passed s at 4 _ _ 0 e .0)))
+  beside-ops (suc left) at =
+      beside-as (was-next left at) (is-next left at)
+      (beside-field (suc left) _ _ at _ _ (λ e. beside-more (opAt s at) (field-width left at e) (beside-ops left (at + 3 + sizeAt s at))))
 
 module _ (s : List ℕ) where
   -- behind operations that end with the input comes nothing new

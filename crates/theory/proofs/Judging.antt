@@ -2,23 +2,24 @@
 -- Assumes nothing.
 use Prim.Native.Nat.{ℕ, zero, suc, _+_, _-_, _*_, _^_, _<_, _≤_}
 use mathlib.Core.Path.{_≡_, refl, sym, ap, subst, _∙_}
-use mathlib.Core.Bool.{Bool, true, false, not, cond}
+use mathlib.Core.Bool.{Bool, true, false, not, cond, _&&_, _||_}
 use mathlib.Core.List.{List, [], _∷_}
 use mathlib.Core.Logic.{_↔_, _⊎_, inl, inr}
 use native.Mathlib.Omega.{arith}
 use lib.Dec.{leb, ltb, eqb}
 use lib.Bits.{bitOr}
-use lib.ListN.{length, getD, drop, length-drop}
-use borrow.Author.Tests.{lt-ltb, ltb-false, leb-false, leb-true, eqb-true, eqb-false, not-false}
+use lib.ListN.{length, getD, drop, length-append, length-drop}
+use borrow.Author.Tests.{lt-ltb, ltb-false, leb-false, leb-true, eq-eqb, ne-eqb, eqb-true, eqb-false, not-true, not-false}
 use Rattle.rules.specs.Sets.{Share}
-use Rattle.rules.specs.Table.{Op, Decider, nobody, decides, Table, nops, op, noOp, SetOf, OpOk, Clash, Race, Contest, Decided, Accepted}
+use Rattle.rules.specs.Table.{Op, Decider, nobody, decides, Table, nops, op, noOp, heldTo, SetOf, OpOk, Clash, Race, Contest, Decided, Accepted}
 use Rattle.rules.specs.Verdicts.{accepted, refused, SHORT, ORDER, SIZE, MANY, CLASH, RACE, Test, refuseIf, _then_, onwards, more, each}
-use Rattle.rules.specs.Bytes.{num8, words, opAt, deciderBytes}
-use Rattle.rules.specs.Judge.{needed, header, due, sized, complete, ranged, notMany, fieldTest, repeatTest, fieldsFrom, lenRanges, lenWrong, countRanges, countsWrong, setOk, setRanges, setsWrong, opRanges, opWrong, deciderRanges, deciderWrong, clashes, races, pairsTest, earlyTest, judgeWhole, headOf, withOps, withDecider, opsPlace, opsEnd, headTest, opsDone, opsFrom, nothingDue, deciderAt, deciderTest, judgeBehind, judge, Numbers, opOfNumbers, headOfNumbers, deciderOf, numbersTest, opsOfNumbers, judgeDecider, judgeNumbers}
+use Rattle.rules.specs.Bytes.{num8, words, joined, opSize, opForm, settles, opBytes, heldAt, readOp, opAt, deciderBytes}
+use Rattle.rules.specs.Judge.{needed, header, due, sized, complete, ranged, notMany, fieldTest, repeatTest, fieldsFrom, lenRanges, lenWrong, countRanges, countsWrong, setOk, setRanges, setsWrong, usedRanges, opRanges, opWrong, deciderRanges, deciderWrong, clashes, races, pairsTest, earlyTest, judgeWhole, headOf, withOps, withDecider, opsPlace, opsSize, opsEnd, headTest, opsDone, sizeAt, wrongAt, opsFrom, nothingDue, deciderAt, deciderTest, judgeBehind, judge, Numbers, markedOf, opOfNumbers, headOfNumbers, deciderOf, noneLeft, numbersTest, opsOfNumbers, judgeDecider, judgeNumbers}
 use Rattle.rules.specs.Bench.{All}
 use Rattle.theory.specs.Pairs.{FirstPair}
+use Rattle.theory.specs.Holds.{Plain, stepWrong, opWidth, placeFrom}
 use Rattle.theory.proofs.Order.{Cmp, cmp}
-use Rattle.theory.proofs.Says.{Says, says-by, says-leb, says-ltb, says-and, says-or, says-false, says-eqb, clash-bool}
+use Rattle.theory.proofs.Says.{Says, says-by, says-leb, says-ltb, says-and, says-or, says-false, says-eqb, or-false, clash-bool}
 use Rattle.theory.proofs.Sets.{in-or, says-shares}
 use Rattle.theory.proofs.Tests.{says-overlaps}
 use Rattle.theory.proofs.Ranges.{Fine, none-wrong, range-passed, decider-none}
@@ -65,34 +66,89 @@ says-set n s =
     (λ x. record { some = x .0; small = x .1 })
     (λ x. (x .some, x .small))
 
--- no number of an operation is wrong exactly where it is in its ranges; a start fits its field where the operation ends by p
-pub op-passed : (T : Table) (o : Op) → opWrong T o ≡ 0 → OpOk T o
-unfolding opWrong All
-op-passed T o e =
-    let (_, (d, (b, (r, (w, (m, _)))))) = none-wrong (opRanges T o) .0 e in
-    let (lasts, fits) = says-and _ _ (says-leb 1 (o .dur)) (says-leb (o .start + o .dur) (T .len)) .0 d in
-    record {
-      lasts = lasts;
-      fits = fits;
-      boards = says-set (T .boards) (o .boards) .0 b;
-      reads = says-ltb _ _ .0 r;
-      writes = says-ltb _ _ .0 w;
-      modes = says-set (T .modes) (o .modes) .0 m;
-    }
+-- the numbers of an operation behind its dates, and its two dates
+says-used : (T : Table) (o : Op) → All Fine (usedRanges T o)
+    ↔ (SetOf (T .boards) (o .boards) × ((o .reads < 2 ^ T .cells) × ((o .writes < 2 ^ T .cells) × SetOf (T .modes) (o .modes))))
+unfolding All
+says-used T o =
+    let boards = says-set (T .boards) (o .boards) in
+    let reads = says-ltb (o .reads) (2 ^ T .cells) in
+    let writes = says-ltb (o .writes) (2 ^ T .cells) in
+    let modes = says-set (T .modes) (o .modes) in
+    (λ (b, (r, (w, (m, _)))). (boards .0 b, (reads .0 r, (writes .0 w, modes .0 m))), λ (b, (r, (w, m))). (boards .1 b, (reads .1 r, (writes .1 w, (modes .1 m, tt)))))
 
-pub op-passes : (T : Table) (o : Op) → T .len ≤ 1000 → OpOk T o → opWrong T o ≡ 0
+says-dur : (T : Table) (o : Op) → Says (leb 1 (o .dur) && leb (o .start + o .dur) (T .len)) ((1 ≤ o .dur) × (o .start + o .dur ≤ T .len))
+says-dur T o = says-and _ _ (says-leb 1 (o .dur)) (says-leb (o .start + o .dur) (T .len))
+
+says-hold : (T : Table) (o : Op) → Says (leb 1 (o .hold) && leb (o .start + o .dur + o .hold) (T .len)) ((1 ≤ o .hold) × (heldTo o ≤ T .len))
+says-hold T o = says-and _ _ (says-leb 1 (o .hold)) (says-leb (o .start + o .dur + o .hold) (T .len))
+
+-- no number of an operation is wrong exactly where it is in its ranges; a start fits its field where the operation ends by p
+form-passed : (T : Table) (held : Bool) (o : Op) → Plain held o → opWrong T held o ≡ 0 → OpOk T o
 unfolding opWrong All
-op-passes T o short x =
-    none-wrong (opRanges T o) .1 (
-      lt-ltb (o .start) 65536 (omega (arith, x .fits)),
-      (
-        says-and _ _ (says-leb 1 (o .dur)) (says-leb (o .start + o .dur) (T .len)) .1 (x .lasts, x .fits),
-        (
-          says-set (T .boards) (o .boards) .1 (x .boards),
-          (says-ltb _ _ .1 (x .reads), (says-ltb _ _ .1 (x .writes), (says-set (T .modes) (o .modes) .1 (x .modes), tt))),
-        ),
-      ),
-    )
+form-passed T false o plain e =
+    let (_, (d, used)) = none-wrong (opRanges T false o) .0 e in
+    let (lasts, ends) = says-dur T o .0 d in
+    let (boards, (reads, (writes, modes))) = says-used T o .0 used in
+    record { lasts = lasts; fits = omega (arith, ends, plain refl); boards = boards; reads = reads; writes = writes; modes = modes }
+form-passed T true o plain e =
+    let (_, (d, (h, used))) = none-wrong (opRanges T true o) .0 e in
+    let (boards, (reads, (writes, modes))) = says-used T o .0 used in
+    record { lasts = says-dur T o .0 d .0; fits = says-hold T o .0 h .1; boards = boards; reads = reads; writes = writes; modes = modes }
+
+form-passes : (T : Table) (held : Bool) (o : Op) → (held ≡ true → 1 ≤ o .hold) → T .len ≤ 1000 → OpOk T o → opWrong T held o ≡ 0
+unfolding opWrong All
+form-passes T held o some short x =
+    let start : o .start < 65536 = omega (arith, x .fits) in
+    let ends : o .start + o .dur ≤ T .len = omega (arith, x .fits) in
+    let dates = says-dur T o .1 (x .lasts, ends) in
+    let used = says-used T o .1 (x .boards, (x .reads, (x .writes, x .modes))) in
+    go held some (lt-ltb (o .start) 65536 start) dates used
+  where
+    go : (held : Bool) → (held ≡ true → 1 ≤ o .hold) → ltb (o .start) 65536 ≡ true → (leb 1 (o .dur) && leb (o .start + o .dur) (T .len)) ≡ true
+        → All Fine (usedRanges T o) → opWrong T held o ≡ 0
+    go false some start dates used = none-wrong (opRanges T false o) .1 (start, (dates, used))
+    go true some start dates used = none-wrong (opRanges T true o) .1 (start, (dates, (says-hold T o .1 (some refl, x .fits), used)))
+
+-- a hold is there exactly where it is not 0
+settles-yes : (o : Op) → 1 ≤ o .hold → settles o ≡ true
+settles-yes o h = ap not (ne-eqb (o .hold) 0 (λ e. omega arith))
+
+settles-no : (o : Op) → o .hold ≡ 0 → settles o ≡ false
+settles-no o e = ap not (eq-eqb (o .hold) 0 e)
+
+pub own-plain : (o : Op) → Plain (settles o) o
+own-plain o e = eqb-true (o .hold) 0 (not-false _ e)
+
+own-some : (o : Op) → settles o ≡ true → 1 ≤ o .hold
+own-some o e = omega (arith, eqb-false (o .hold) 0 (not-true _ e))
+
+-- an operation that passes has the form that it is written in
+pub own-form : (T : Table) (held : Bool) (o : Op) → Plain held o → opWrong T held o ≡ 0 → held ≡ settles o
+unfolding opWrong All
+own-form T false o plain e = sym (settles-no o (plain refl))
+own-form T true o plain e = let (_, (_, (h, _))) = none-wrong (opRanges T true o) .0 e in sym (settles-yes o (says-hold T o .0 h .0))
+
+pub own-wrong : (T : Table) (held : Bool) (o : Op) → Plain held o → opWrong T held o ≡ 0 → stepWrong T o ≡ 0
+own-wrong T held o plain e = subst (λ (b : Bool). opWrong T b o ≡ 0) (own-form T held o plain e) e
+
+pub op-passed : (T : Table) (o : Op) → stepWrong T o ≡ 0 → OpOk T o
+op-passed T o e = form-passed T (settles o) o (own-plain o) e
+
+pub op-passes : (T : Table) (o : Op) → T .len ≤ 1000 → OpOk T o → stepWrong T o ≡ 0
+op-passes T o short x = form-passes T (settles o) o (own-some o) short x
+
+-- the operation at a place, and an operation handed over, has no hold without a field or a mark for it
+pub plain-at : (s : List ℕ) (at : ℕ) → Plain (heldAt s at) (opAt s at)
+unfolding opAt
+plain-at s at e = go (heldAt s at) e
+  where
+    go : (held : Bool) → held ≡ false → readOp held s at .hold ≡ 0
+    go false e = refl
+    go true e = clash-bool refl e
+
+pub plain-handed : (ns hs : List ℕ) → Plain (markedOf hs) (opOfNumbers ns hs)
+plain-handed ns hs e = rw e
 
 -- one set more in front
 pub sets-more : (n s : ℕ) (ss : List ℕ)
@@ -319,78 +375,80 @@ module _ {A : Type 0} (wrong : A → ℕ) (none : A) where
       at zero h = fine
       at (suc i) h = p .each i (omega arith)
 
--- each of them stands `unit` places behind the one before, the first at a place
-abbrev pub Placed : {A : Type 0} → A → (ℕ → A) → ℕ → ℕ → List A → Type 0
-Placed none f unit at xs = (i : ℕ) → i < length xs → getD xs i none ≡ f (at + i * unit)
-
-module _ {A : Type 0} (none : A) (f : ℕ → A) (unit at : ℕ) where
-  placed-more : (next : ℕ) → next ≡ at + unit → (xs : List A) → Placed none f unit next xs → Placed none f unit at (f at ∷ xs)
-  placed-more next e xs rest zero h = ap f (omega arith)
-  placed-more next e xs rest (suc i) h = rest i (omega (arith, h)) ∙ ap f (omega arith)
-
 -- behind the last of them they end, inside the input if they begin there
-pub record Ended {A : Type 0} (ends : List ℕ → ℕ → Bool) (s : List ℕ) (unit at : ℕ) (xs : List A) : Type 0 where
-  pub done : ends s (at + length xs * unit) ≡ true
-  pub inside : at ≤ length s → at + length xs * unit ≤ length s
+pub record Ended (ends : List ℕ → ℕ → Bool) (s : List ℕ) (at end : ℕ) : Type 0 where
+  pub done : ends s end ≡ true
+  pub inside : at ≤ length s → end ≤ length s
 
-module _ {A : Type 0} (ends : List ℕ → ℕ → Bool) (tag size : ℕ) (wrong : A → ℕ) (value : List ℕ → ℕ → A) (s : List ℕ) where
+-- fields of one size
+pub place-even : (unit : ℕ) (s : List ℕ) (at i : ℕ) → placeFrom (λ s at. unit) s at i ≡ at + (3 + unit) * i
+unfolding placeFrom
+place-even unit s at zero = omega arith
+place-even unit s at (suc i) = place-even unit s (at + 3 + unit) i ∙ omega arith
+
+module _ {A : Type 0} (ends : List ℕ → ℕ → Bool) (tag : ℕ) (size wrong : List ℕ → ℕ → ℕ) (value : List ℕ → ℕ → A) (s : List ℕ) where
   -- the tests at one place, where no more may come and where one may
   pub fields-end : (at : ℕ)
       → fieldsFrom ends tag size wrong value s zero at
-      ≡ cond (ends s at) (accepted []) (repeatTest s at 0 tag size (wrong (value s at)) then accepted [])
+      ≡ cond (ends s at) (accepted []) (repeatTest s at 0 tag (size s at) (wrong s at) then accepted [])
   unfolding fieldsFrom
   fields-end at = refl
 
   pub fields-next : (left at : ℕ)
       → fieldsFrom ends tag size wrong value s (suc left) at
       ≡ cond (ends s at) (accepted [])
-      (repeatTest s at (suc left) tag size (wrong (value s at)) then more (value s at) (fieldsFrom ends tag size wrong value s left (at + 3 + size)))
+      (repeatTest s at (suc left) tag (size s at) (wrong s at) then more (value s at) (fieldsFrom ends tag size wrong value s left (at + 3 + size s at)))
   unfolding fieldsFrom
   fields-next left at = refl
 
   -- what holds of none where they end, and of one more in front that passes, holds of all that are accepted
   pub fields-all : (P : ℕ → ℕ → List A → Type 0)
       → ((left at : ℕ) → ends s at ≡ true → P left at [])
-      → ((left at : ℕ) (xs : List A) → repeatTest s at (suc left) tag size (wrong (value s at)) ≡ accepted tt → P left (at + 3 + size) xs
+      → ((left at : ℕ) (xs : List A) → repeatTest s at (suc left) tag (size s at) (wrong s at) ≡ accepted tt → P left (at + 3 + size s at) xs
       → P (suc left) at (value s at ∷ xs))
       → (left at : ℕ) (xs : List A) → fieldsFrom ends tag size wrong value s left at ≡ accepted xs → P left at xs
   fields-all P none one zero at xs e =
       both (ends s at) (sym (fields-end at) ∙ e)
       (λ b x. let same : [] ≡ xs = cc in subst (λ (ys : List A). P 0 at ys) same (none 0 at b))
-      (λ b x. clash-bool refl (repeat-passed s at tag size _ 0 (then-first _ _ x .1) .0))
+      (λ b x. clash-bool refl (repeat-passed s at tag (size s at) _ 0 (then-first _ _ x .1) .0))
   fields-all P none one (suc left) at xs e =
       both (ends s at) (sym (fields-next left at) ∙ e)
       (λ b x. let same : [] ≡ xs = cc in subst (λ (ys : List A). P (suc left) at ys) same (none (suc left) at b))
       (λ b x.
       let (ys, rest, whole) = more-first (value s at) _ (then-rest _ _ x) in
       subst (λ (zs : List A). P (suc left) at zs) (sym whole)
-      (one left at ys (then-first _ _ x .1) (fields-all P none one left (at + 3 + size) ys rest)))
+      (one left at ys (then-first _ _ x .1) (fields-all P none one left (at + 3 + size s at) ys rest)))
 
-  -- they are few, and each passes
-  pub fields-passing : (none : A) (left at : ℕ) (xs : List A) → fieldsFrom ends tag size wrong value s left at ≡ accepted xs
-      → Passing wrong none left xs
-  fields-passing none =
-      fields-all (λ left at xs. Passing wrong none left xs)
-      (λ left at e. passing-none wrong none left)
-      (λ left at xs e p. passing-more wrong none (repeat-passed s at tag size _ (suc left) e .2) p)
+  -- they are few, and each passes, as the test of its place says
+  pub fields-passing : (own : A → ℕ) → ((at : ℕ) → wrong s at ≡ 0 → own (value s at) ≡ 0)
+      → (none : A) (left at : ℕ) (xs : List A) → fieldsFrom ends tag size wrong value s left at ≡ accepted xs → Passing own none left xs
+  fields-passing own fine none =
+      fields-all (λ left at xs. Passing own none left xs)
+      (λ left at e. passing-none own none left)
+      (λ left at xs e p. passing-more own none (fine at (repeat-passed s at tag (size s at) _ (suc left) e .2)) p)
 
-  -- each has its value from its own place
+  -- each has its value from its own place, and passes there
   pub fields-values : (none : A) (left at : ℕ) (xs : List A) → fieldsFrom ends tag size wrong value s left at ≡ accepted xs
-      → Placed none (value s) (3 + size) at xs
+      → (i : ℕ) → i < length xs → (getD xs i none ≡ value s (placeFrom size s at i)) × (wrong s (placeFrom size s at i) ≡ 0)
+  unfolding placeFrom
   fields-values none =
-      fields-all (λ left at xs. Placed none (value s) (3 + size) at xs)
+      fields-all (λ left at xs. (i : ℕ) → i < length xs → (getD xs i none ≡ value s (placeFrom size s at i)) × (wrong s (placeFrom size s at i) ≡ 0))
       (λ left at e i h. absurd (omega (arith, h)))
-      (λ left at xs e p. placed-more none (value s) (3 + size) at (at + 3 + size) (omega arith) xs p)
+      (λ left at xs e p. one at xs (repeat-passed s at tag (size s at) _ (suc left) e .2) p)
+    where
+      one : (at : ℕ) (xs : List A) → wrong s at ≡ 0
+          → ((i : ℕ) → i < length xs → (getD xs i none ≡ value s (placeFrom size s (at + 3 + size s at) i)) × (wrong s (placeFrom size s (at + 3 + size s at) i) ≡ 0))
+          → (i : ℕ) → i < length (value s at ∷ xs) → (getD (value s at ∷ xs) i none ≡ value s (placeFrom size s at i)) × (wrong s (placeFrom size s at i) ≡ 0)
+      one at xs fine p zero h = (refl, fine)
+      one at xs fine p (suc i) h = p i (omega arith)
 
   -- and they end
-  pub fields-ended : (left at : ℕ) (xs : List A) → fieldsFrom ends tag size wrong value s left at ≡ accepted xs → Ended ends s (3 + size) at xs
+  pub fields-ended : (left at : ℕ) (xs : List A) → fieldsFrom ends tag size wrong value s left at ≡ accepted xs → Ended ends s at (placeFrom size s at (length xs))
+  unfolding placeFrom
   fields-ended =
-      fields-all (λ left at xs. Ended ends s (3 + size) at xs)
-      (λ left at e. let here : at ≡ at + 0 * (3 + size) = omega arith in record { done = subst (λ (k : ℕ). ends s k ≡ true) here e; inside = λ h. omega arith })
-      (λ left at xs e p.
-      let next : at + 3 + size + length xs * (3 + size) ≡ at + suc (length xs) * (3 + size) = omega arith in
-      let whole = repeat-passed s at tag size _ (suc left) e .1 in
-      record { done = subst (λ (k : ℕ). ends s k ≡ true) next (p .done); inside = λ h. omega (arith, p .inside whole) })
+      fields-all (λ left at xs. Ended ends s at (placeFrom size s at (length xs)))
+      (λ left at e. record { done = e; inside = λ h. h })
+      (λ left at xs e p. record { done = p .done; inside = λ h. p .inside (repeat-passed s at tag (size s at) _ (suc left) e .1) })
 
 -- ---- the whole table
 
@@ -432,10 +490,15 @@ says-decider n (decides i) = (
   λ x. none-wrong (deciderRanges n (decides i)) .1 (says-ltb i n .1 (x i refl), tt),
 )
 
--- such a head with operations and a decider that pass is accepted where the judgement of the whole accepts
-whole-ok : (H : Table) (os : List Op) (who : Decider) (T : Table) → HeadOk H → 0 < length os → Passing (opWrong H) noOp 32 os
-    → deciderWrong (length os) who ≡ 0 → judgeWhole (withDecider (withOps H os) who) ≡ accepted T → Accepted T
+-- the ranges of an operation go by the head alone
+pub head-wrong : (H : Table) (os : List Op) (who : Decider) (held : Bool) (o : Op) → opWrong (withDecider (withOps H os) who) held o ≡ opWrong H held o
 unfolding opWrong
+head-wrong H os who false o = refl
+head-wrong H os who true o = refl
+
+-- such a head with operations and a decider that pass is accepted where the judgement of the whole accepts
+whole-ok : (H : Table) (os : List Op) (who : Decider) (T : Table) → HeadOk H → 0 < length os → Passing (stepWrong H) noOp 32 os
+    → deciderWrong (length os) who ≡ 0 → judgeWhole (withDecider (withOps H os) who) ≡ accepted T → Accepted T
 whole-ok H os who T head some ops decider e =
     let (same, no-clash, no-race, early) = whole-accepted (withDecider (withOps H os) who) T e in
     let (len-low, len-high) = says-len (H .len) .0 (head .len) in
@@ -465,9 +528,38 @@ whole-ok H os who T head some ops decider e =
     })
   where
     each : (i : ℕ) → i < length os → OpOk (withDecider (withOps H os) who) (getD os i noOp)
-    each i h = op-passed (withDecider (withOps H os) who) (getD os i noOp) (ops .each i h)
+    each i h = op-passed (withDecider (withOps H os) who) (getD os i noOp) (head-wrong H os who _ _ ∙ ops .each i h)
 
 -- ---- where the operations end
+
+-- how many bytes they have: of none, and with one more in front
+pub op-width : (o : Op) → length (opBytes o) ≡ opWidth o
+unfolding opBytes
+op-width o = go (settles o)
+  where
+    go : (held : Bool) → length (opForm held o) ≡ 3 + opSize held
+    go false = refl
+    go true = refl
+
+pub size-none : opsSize [] ≡ 0
+unfolding opsSize
+size-none = refl
+
+pub size-more : (o : Op) (os : List Op) → opsSize (o ∷ os) ≡ opWidth o + opsSize os
+unfolding opsSize joined
+size-more o os = length-append (opBytes o) (joined opBytes os) ∙ ap (λ (n : ℕ). n + length (joined opBytes os)) (op-width o)
+
+pub form-least : (held : Bool) → 18 ≤ opSize held
+form-least false = omega arith
+form-least true = omega arith
+
+pub form-most : (held : Bool) → opSize held ≤ 20
+form-most false = omega arith
+form-most true = omega arith
+
+pub size-most : (os : List Op) → opsSize os ≤ 23 * length os
+size-most [] = omega (arith, size-none)
+size-most (o ∷ os) = omega (arith, size-more o os, form-most (settles o), size-most os)
 
 module _ (T : Table) (s : List ℕ) (at : ℕ) where
   says-done : Says (opsDone T s at) ((length s ≤ at) ⊎ ((opsPlace (T .modes) < at) × (num8 s at ≡ 5)))
@@ -554,13 +646,25 @@ module _ (s : List ℕ) where
       )
 
   -- operations that are accepted
-  pub ops-passing : (H : Table) (at : ℕ) (os : List Op) → opsFrom H s 32 at ≡ accepted os → Passing (opWrong H) noOp 32 os
+  pub ops-passing : (H : Table) (at : ℕ) (os : List Op) → opsFrom H s 32 at ≡ accepted os → Passing (stepWrong H) noOp 32 os
   unfolding opsFrom
-  ops-passing H = fields-passing (opsDone H) 4 18 (opWrong H) opAt s noOp 32
+  ops-passing H =
+      fields-passing (opsDone H) 4 sizeAt (wrongAt H) opAt s (stepWrong H) (λ at e. own-wrong H (heldAt s at) (opAt s at) (plain-at s at) e) noOp 32
 
-  pub ops-ended : (H : Table) (at : ℕ) (os : List Op) → opsFrom H s 32 at ≡ accepted os → Ended (opsDone H) s 21 at os
+  -- what they pass over is what they are written in
+  pub ops-place : (H : Table) (at : ℕ) (os : List Op) → opsFrom H s 32 at ≡ accepted os → placeFrom sizeAt s at (length os) ≡ at + opsSize os
+  unfolding opsFrom placeFrom
+  ops-place H =
+      fields-all (opsDone H) 4 sizeAt (wrongAt H) opAt s (λ left at os. placeFrom sizeAt s at (length os) ≡ at + opsSize os)
+      (λ left at e. omega (arith, size-none))
+      (λ left at os e p.
+      let form = own-form H (heldAt s at) (opAt s at) (plain-at s at) (repeat-passed s at 4 (sizeAt s at) _ (suc left) e .2) in
+      p ∙ omega (arith, size-more (opAt s at) os, ap opSize form)) 32
+
+  pub ops-ended : (H : Table) (at : ℕ) (os : List Op) → opsFrom H s 32 at ≡ accepted os → Ended (opsDone H) s at (at + opsSize os)
   unfolding opsFrom
-  ops-ended H = fields-ended (opsDone H) 4 18 (opWrong H) opAt s 32
+  ops-ended H at os e =
+      subst (λ (end : ℕ). Ended (opsDone H) s at end) (ops-place H at os e) (fields-ended (opsDone H) 4 sizeAt (wrongAt H) opAt s 32 at os e)
 
   -- the operations do not end where they begin, if something comes there
   ops-begun : (H : Table) → opsPlace (H .modes) < length s → opsDone H s (opsPlace (H .modes)) ≡ true → ⊥
@@ -569,7 +673,7 @@ module _ (s : List ℕ) where
   -- so there is one at least
   pub ops-some : (H : Table) (os : List Op) → opsPlace (H .modes) < length s → opsFrom H s 32 (opsPlace (H .modes)) ≡ accepted os → 0 < length os
   ops-some H [] some e =
-      let here : opsPlace (H .modes) + 0 * 21 ≡ opsPlace (H .modes) = omega arith in
+      let here : opsPlace (H .modes) + opsSize [] ≡ opsPlace (H .modes) = omega (arith, size-none) in
       absurd (ops-begun H some (subst (λ (k : ℕ). opsDone H s k ≡ true) here (ops-ended H _ [] e .done)))
   ops-some H (o ∷ os) some e = omega arith
 
@@ -625,38 +729,54 @@ judge-accepted s T e =
 
 -- ---- a table handed over as numbers
 
+-- of operations that are accepted there are six numbers for each, and a mark and a hold
+pub record Counted (ns hs : List ℕ) (os : List Op) : Type 0 where
+  pub six : length ns ≡ length os * 6
+  pub two : length hs ≡ length os * 2
+
+none-counted : (ns hs : List ℕ) → noneLeft ns hs ≡ true → Counted ns hs []
+none-counted ns hs b = let none = eqb-true (length ns + length hs) 0 b in record { six = omega arith; two = omega arith }
+
+pub numbers-full : (ns hs : List ℕ) (at : ℕ) → refuseIf (ltb (length ns) 6 || ltb (length hs) 2) SHORT at 0 ≡ accepted tt
+    → (6 ≤ length ns) × (2 ≤ length hs)
+numbers-full ns hs at e =
+    let (a, b) = or-false _ _ (passed _ SHORT at 0 e) in (ltb-false (length ns) 6 a, ltb-false (length hs) 2 b)
+
 module _ (T : Table) where
   -- the tests at one operation's numbers, where no more may come and where one may
-  pub numbers-end : (ns : List ℕ) (at : ℕ) → opsOfNumbers T ns zero at ≡ cond (eqb (length ns) 0) (accepted []) (notMany at 0 then accepted [])
+  pub numbers-end : (ns hs : List ℕ) (at : ℕ) → opsOfNumbers T ns hs zero at ≡ cond (noneLeft ns hs) (accepted []) (notMany at 0 then accepted [])
   unfolding opsOfNumbers
-  numbers-end ns at = refl
+  numbers-end ns hs at = refl
 
-  pub numbers-next : (ns : List ℕ) (left at : ℕ)
-      → opsOfNumbers T ns (suc left) at
-      ≡ cond (eqb (length ns) 0) (accepted [])
-      (refuseIf (ltb (length ns) 6) SHORT at 0
-      then ranged (opWrong T (opOfNumbers ns)) at
-      then more (opOfNumbers ns) (opsOfNumbers T (drop 6 ns) left (at + 21)))
+  pub numbers-next : (ns hs : List ℕ) (left at : ℕ)
+      → opsOfNumbers T ns hs (suc left) at
+      ≡ cond (noneLeft ns hs) (accepted [])
+      (refuseIf (ltb (length ns) 6 || ltb (length hs) 2) SHORT at 0
+      then ranged (opWrong T (markedOf hs) (opOfNumbers ns hs)) at
+      then more (opOfNumbers ns hs) (opsOfNumbers T (drop 6 ns) (drop 2 hs) left (at + 3 + opSize (markedOf hs))))
   unfolding opsOfNumbers
-  numbers-next ns left at = refl
+  numbers-next ns hs left at = refl
 
-  -- numbers of operations that are accepted are six for each
-  pub numbers-passing : (ns : List ℕ) (left at : ℕ) (os : List Op) → opsOfNumbers T ns left at ≡ accepted os
-      → Passing (opWrong T) noOp left os × (length ns ≡ length os * 6)
+  pub numbers-passing : (ns hs : List ℕ) (left at : ℕ) (os : List Op) → opsOfNumbers T ns hs left at ≡ accepted os
+      → Passing (stepWrong T) noOp left os × Counted ns hs os
   unfolding notMany
-  numbers-passing ns zero at os e =
-      both _ (sym (numbers-end ns at) ∙ e)
-      (λ b x. let same : [] ≡ os = cc in rw (← same) (passing-none (opWrong T) noOp 0, eqb-true (length ns) 0 b))
+  numbers-passing ns hs zero at os e =
+      both _ (sym (numbers-end ns hs at) ∙ e)
+      (λ b x. let same : [] ≡ os = cc in rw (← same) (passing-none (stepWrong T) noOp 0, none-counted ns hs b))
       (λ b x. clash-bool refl (passed _ MANY at 0 (then-first _ _ x .1)))
-  numbers-passing ns (suc left) at os e =
-      both _ (sym (numbers-next ns left at) ∙ e)
-      (λ b x. let same : [] ≡ os = cc in rw (← same) (passing-none (opWrong T) noOp (suc left), eqb-true (length ns) 0 b))
+  numbers-passing ns hs (suc left) at os e =
+      both _ (sym (numbers-next ns hs left at) ∙ e)
+      (λ b x. let same : [] ≡ os = cc in rw (← same) (passing-none (stepWrong T) noOp (suc left), none-counted ns hs b))
       (λ b x.
-      let full = ltb-false (length ns) 6 (passed _ SHORT at 0 (then-first _ _ x .1)) in
+      let full = numbers-full ns hs at (then-first _ _ x .1) in
       let from = then-rest _ _ x in
-      let (us, come, whole) = more-first (opOfNumbers ns) _ (then-rest _ _ from) in
-      let (p, six) = numbers-passing (drop 6 ns) left (at + 21) us come in
-      rw whole (passing-more (opWrong T) noOp (range-passed _ at (then-first _ _ from .1)) p, omega (arith, length-drop 6 ns)))
+      let (us, come, whole) = more-first (opOfNumbers ns hs) _ (then-rest _ _ from) in
+      let (p, c) = numbers-passing (drop 6 ns) (drop 2 hs) left _ us come in
+      let fine = own-wrong T (markedOf hs) (opOfNumbers ns hs) (plain-handed ns hs) (range-passed _ at (then-first _ _ from .1)) in
+      rw whole (
+        passing-more (stepWrong T) noOp fine p,
+        record { six = omega (arith, length-drop 6 ns, c .six, full .0); two = omega (arith, length-drop 2 hs, c .two, full .1) },
+      ))
 
 -- and those that come behind the operations
 pub judgeDecider-row : (who : Decider) (T : Table)
@@ -671,18 +791,18 @@ module _ (N : Numbers) where
       then ranged (countsWrong (N .boards) (N .cells) (N .modes)) 5
       then refuseIf (not (eqb (length (N .follow)) (N .modes))) SIZE 11 0
       then ranged (setsWrong (N .modes) (N .first ∷ N .follow)) 11
-      then refuseIf (eqb (length (N .ops)) 0) ORDER (opsPlace (N .modes)) 0)
+      then refuseIf (noneLeft (N .ops) (N .holds)) ORDER (opsPlace (N .modes)) 0)
   unfolding numbersTest
   numbers-row = refl
 
   pub judgeNumbers-row : judgeNumbers N
       ≡ (numbersTest N
-      then onwards (opsOfNumbers (headOfNumbers N) (N .ops) 32 (opsPlace (N .modes))) (λ os. judgeDecider (deciderOf N) (withOps (headOfNumbers N) os)))
+      then onwards (opsOfNumbers (headOfNumbers N) (N .ops) (N .holds) 32 (opsPlace (N .modes))) (λ os. judgeDecider (deciderOf N) (withOps (headOfNumbers N) os)))
   unfolding judgeNumbers
   judgeNumbers-row = refl
 
   -- a head that passes is in its ranges, and operations come with it
-  pub numbers-ok : numbersTest N ≡ accepted tt → HeadOk (headOfNumbers N) × (0 < length (N .ops))
+  pub numbers-ok : numbersTest N ≡ accepted tt → HeadOk (headOfNumbers N) × (0 < length (N .ops) + length (N .holds))
   numbers-ok e =
       let e0 = sym numbers-row ∙ e in
       let e1 = then-rest _ _ e0 in
@@ -694,7 +814,7 @@ module _ (N : Numbers) where
           words = eqb-true _ _ (not-false _ (passed _ SIZE 11 0 (then-first _ _ e2 .1)));
           sets = range-passed _ 11 (then-first _ _ e3 .1);
         },
-        omega (arith, eqb-false (length (N .ops)) 0 (passed _ ORDER (opsPlace (N .modes)) 0 (then-rest _ _ e3))),
+        omega (arith, eqb-false (length (N .ops) + length (N .holds)) 0 (passed _ ORDER (opsPlace (N .modes)) 0 (then-rest _ _ e3))),
       )
 
 -- what the judge accepts of numbers is an accepted table
@@ -704,5 +824,5 @@ numbers-accepted N T e =
     let (head, some) = numbers-ok N (then-first _ _ e0 .1) in
     let (os, come, rest) = onwards-first _ _ (then-rest _ _ e0) in
     let e1 = sym (judgeDecider-row (deciderOf N) (withOps (headOfNumbers N) os)) ∙ rest in
-    let (passing, six) = numbers-passing _ (N .ops) 32 _ os come in
-    whole-ok (headOfNumbers N) os (deciderOf N) T head (omega arith) passing (range-passed _ _ (then-first _ _ e1 .1)) (then-rest _ _ e1)
+    let (passing, counted) = numbers-passing _ (N .ops) (N .holds) 32 _ os come in
+    whole-ok (headOfNumbers N) os (deciderOf N) T head (omega (arith, some, counted .six, counted .two)) passing (range-passed _ _ (then-first _ _ e1 .1)) (then-rest _ _ e1)

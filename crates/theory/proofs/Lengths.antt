@@ -1,47 +1,48 @@
--- The length of an accepted table's bytes, and that no verdict depends on bytes past 825; none on a reply on bytes past 232.
+-- The length of an accepted table's bytes, and that no verdict depends on bytes past 889; none on a reply on bytes past 232.
 -- Assumes nothing.
 use Prim.Native.Nat.{ℕ, zero, suc, _+_, _-_, _*_, _<_, _≤_}
 use mathlib.Core.Path.{_≡_, refl, sym, ap, subst, _∙_}
-use mathlib.Core.Bool.{Bool}
+use mathlib.Core.Bool.{Bool, true, false}
 use mathlib.Core.List.{List, [], _∷_}
 use native.Mathlib.Omega.{arith}
-use lib.Dec.{leb, ltb}
+use lib.Dec.{leb, ltb, eqb}
 use lib.ListN.{length, getD, take, replicate, length-take, length-replicate, getD-replicate}
 use lib.Seq.{getD-take}
 use borrow.Author.Tests.{eqb-false}
 use Rattle.rules.specs.Sets.{Overlap}
-use Rattle.rules.specs.Table.{Op, Decider, nobody, decides, Table, noOp, nops, op, endOf, SetOf, Always, Accepted}
+use Rattle.rules.specs.Table.{Op, Decider, nobody, decides, Table, noOp, nops, op, heldTo, SetOf, Always, Accepted}
 use Rattle.rules.specs.Rows.{Row, ticks}
 use Rattle.rules.specs.Verdicts.{Verdict, accepted, refused, MANY, CLASH, _then_, onwards}
-use Rattle.rules.specs.Bytes.{num8, num16, num32, words, deciderBytes, opAt, rowAt, tableBytes, longestTable, farthest}
-use Rattle.rules.specs.Judge.{needed, header, due, notMany, sized, complete, fieldTest, repeatTest, atEnd, fieldsFrom, lenWrong, countsWrong, setsWrong, opWrong, deciderWrong, clashes, headTest, headOf, withOps, opsDone, opsFrom, opsPlace, opsEnd, nothingDue, deciderAt, deciderTest, judgeBehind, judge, rowWrong, rowsFrom, judgeReply}
-use Rattle.rules.specs.Bench.{opn, oneMode}
+use Rattle.rules.specs.Bytes.{num8, num16, num32, words, opSize, deciderBytes, heldAt, readOp, opAt, rowAt, tableBytes, longestTable, farthest}
+use Rattle.rules.specs.Judge.{needed, header, due, notMany, sized, complete, fieldTest, repeatTest, atEnd, fieldsFrom, lenWrong, countsWrong, setsWrong, opWrong, deciderWrong, clashes, headTest, headOf, withOps, opsDone, sizeAt, wrongAt, opsFrom, opsPlace, opsSize, opsEnd, nothingDue, deciderAt, deciderTest, judgeBehind, judge, rowWrong, rowsFrom, judgeReply}
+use Rattle.rules.specs.Bench.{opn, held, oneMode}
+use Rattle.theory.specs.Holds.{stepWrong}
 use Rattle.theory.proofs.Says.{says-same, says-leb, says-ltb}
 use Rattle.theory.proofs.Early.{full-iff}
 use Rattle.theory.proofs.Ranges.{decider-none}
 use Rattle.theory.proofs.Verdicts.{passed, then-refuses, then-same, onwards-same}
-use Rattle.theory.proofs.Judging.{field-row, repeat-row, fields-end, fields-next, head-row, head-ok, judge-row, field-passed, says-counts, HeadOk, pairs-first, whole-row, whole-accepted, behind-row, decider-row, nothing-row, ops-passing, decider-passed, parts-inside, judge-parts, judge-accepted}
+use Rattle.theory.proofs.Judging.{field-row, repeat-row, fields-end, fields-next, head-row, head-ok, judge-row, field-passed, says-counts, HeadOk, pairs-first, whole-row, whole-accepted, behind-row, decider-row, nothing-row, form-most, size-none, size-more, size-most, ops-passing, decider-passed, parts-inside, judge-parts, judge-accepted}
 use Rattle.theory.proofs.Bytes.{table-length}
 use Rattle.theory.proofs.Numbers.{ranges-written, write-read}
 use Rattle.theory.proofs.Replies.{reply-row}
 
--- a table's bytes: 18, 4 for each mode, 21 for each operation, and those of the decider
-pub table-size : (s : List ℕ) (T : Table) → judge s ≡ accepted T → length s ≡ 18 + 4 * T .modes + 21 * nops T + length (deciderBytes (T .decider))
+-- a table's bytes: 18, 4 for each mode, those of the operations, and those of the decider
+pub table-size : (s : List ℕ) (T : Table) → judge s ≡ accepted T → length s ≡ 18 + 4 * T .modes + opsSize (T .ops) + length (deciderBytes (T .decider))
 table-size s T e =
     let p = judge-parts s T e in
-    subst (λ (U : Table). length s ≡ 18 + 4 * U .modes + 21 * nops U + length (deciderBytes (U .decider))) (whole-accepted _ T (p .whole) .0)
+    subst (λ (U : Table). length s ≡ 18 + 4 * U .modes + opsSize (U .ops) + length (deciderBytes (U .decider))) (whole-accepted _ T (p .whole) .0)
     (decider-passed s _ _ (p .decider) (parts-inside s T p) .1)
 
 decider-size : (who : Decider) → length (deciderBytes who) ≤ 4
 decider-size nobody = omega arith
 decider-size (decides d) = omega arith
 
--- "01's 818 .. bytes become 822"
+-- "the longest table has 886 bytes, with the decider's field"
 pub longest : (s : List ℕ) (T : Table) → judge s ≡ accepted T → length s ≤ longestTable
-longest s T e = let ok = judge-accepted s T e in omega (arith, table-size s T e, decider-size (T .decider))
+longest s T e = let ok = judge-accepted s T e in omega (arith, table-size s T e, size-most (T .ops), decider-size (T .decider))
 
--- ---- a table of that length is accepted: 32 modes, each follows each, and 32 operations, each in every mode on all boards in a tick of its own,
--- of which the first decides
+-- ---- a table of that length is accepted: 32 modes, each follows each, and 32 operations, each in every mode on all boards in a tick of its own, with
+-- a tick to settle behind it, of which the first decides
 abbrev full : ℕ
 full = 4294967295
 
@@ -49,7 +50,7 @@ full-set : SetOf 32 full
 full-set = record { some = omega arith; small = omega arith }
 
 abbrev inTick : ℕ → Op
-inTick t = opn t 1 65535 full full full
+inTick t = held (2 * t) 1 1 65535 full full full
 
 inTicks : ℕ → List Op
 inTicks zero = []
@@ -59,6 +60,11 @@ inTicks-length : (n : ℕ) → length (inTicks n) ≡ n
 unfolding inTicks
 inTicks-length zero = refl
 inTicks-length (suc n) = ap suc (inTicks-length n)
+
+inTicks-size : (n : ℕ) → opsSize (inTicks n) ≡ 23 * n
+unfolding inTicks
+inTicks-size zero = size-none
+inTicks-size (suc n) = omega (arith, size-more (inTick n) (inTicks n), inTicks-size n)
 
 inTicks-at : (n i : ℕ) → i < n → getD (inTicks n) i noOp ≡ inTick (n - suc i)
 unfolding inTicks
@@ -84,11 +90,11 @@ largest-op i h = inTicks-at 32 i (omega (arith, inTicks-length 32)) ∙ ap inTic
 
 -- two of them do not overlap
 apart : (i j : ℕ) → i < j → j < nops largest
-    → Overlap (op largest i .start) (endOf (op largest i)) (op largest j .start) (endOf (op largest j)) → ⊥
+    → Overlap (op largest i .start) (heldTo (op largest i)) (op largest j .start) (heldTo (op largest j)) → ⊥
 apart i j h k lap =
     let here = largest-op i (omega arith) in
     let there = largest-op j k in
-    let lap′ : Overlap (31 - i) (31 - i + 1) (31 - j) (31 - j + 1) = rw (here, there) at lap in
+    let lap′ : Overlap (2 * (31 - i)) (2 * (31 - i) + 1 + 1) (2 * (31 - j)) (2 * (31 - j) + 1 + 1) = rw (here, there) at lap in
     omega (arith, inTicks-length 32, lap′ .1)
 
 largest-always : (i : ℕ) → i < nops largest → Always largest (op largest i)
@@ -121,7 +127,7 @@ largest-accepted =
             modes = full-set;
           });
       no-clash = λ i j h k x. apart i j h k (x .lap);
-      no-race = λ i j h k x. apart i j h k (x .lap);
+      no-race = λ i j h k x. apart i j h k (omega (arith, x .lap .0), omega (arith, x .lap .1));
       decided =
           record {
             isOp = omega (arith, inTicks-length 32);
@@ -135,7 +141,7 @@ longest-reached = (
   tableBytes largest,
   largest,
   write-read largest largest-accepted,
-  table-length largest ∙ omega (arith, length-replicate {A = ℕ} 32 full, inTicks-length 32),
+  table-length largest ∙ omega (arith, length-replicate {A = ℕ} 32 full, inTicks-size 32),
 )
 
 -- "K1's operation 32 times: refused 6 0 1"
@@ -146,7 +152,7 @@ times-head : HeadOk k1-times
 unfolding lenWrong countsWrong setsWrong
 times-head = record { len = refl; counts = refl; words = refl; sets = refl }
 
-times-op : (i : ℕ) → i < 32 → opWrong k1-times (op k1-times i) ≡ 0
+times-op : (i : ℕ) → i < 32 → stepWrong k1-times (op k1-times i) ≡ 0
 unfolding opWrong
 times-op i h = rw (getD-replicate 32 i (opn 1 3 1 0 0 1) noOp h)
 
@@ -200,8 +206,11 @@ module _ (n : ℕ) (s : List ℕ) where
   words-near at zero h = refl
   words-near at (suc m) h = cc (num32-near at (omega arith), words-near (at + 4) m (omega arith))
 
-  op-near : (at : ℕ) → at + 21 ≤ n → opAt (take n s) at ≡ opAt s at
-  op-near at h =
+  form-near : (at : ℕ) → at + 3 ≤ n → heldAt (take n s) at ≡ heldAt s at
+  form-near at h = ap (λ (x : ℕ). eqb x 20) (num16-near (at + 1) (omega arith))
+
+  numbers-near : (held : Bool) (at : ℕ) → at + 23 ≤ n → readOp held (take n s) at ≡ readOp held s at
+  numbers-near false at h =
       cc (
         num16-near (at + 3) (omega arith),
         num16-near (at + 5) (omega arith),
@@ -210,6 +219,20 @@ module _ (n : ℕ) (s : List ℕ) where
         num32-near (at + 13) (omega arith),
         num32-near (at + 17) (omega arith),
       )
+  numbers-near true at h =
+      cc (
+        num16-near (at + 3) (omega arith),
+        num16-near (at + 5) (omega arith),
+        num16-near (at + 7) (omega arith),
+        num16-near (at + 9) (omega arith),
+        num32-near (at + 11) (omega arith),
+        num32-near (at + 15) (omega arith),
+        num32-near (at + 19) (omega arith),
+      )
+
+  op-near : (at : ℕ) → at + 23 ≤ n → opAt (take n s) at ≡ opAt s at
+  unfolding opAt
+  op-near at h = ap (λ (held : Bool). readOp held (take n s) at) (form-near at (omega arith)) ∙ numbers-near (heldAt s at) at h
 
   -- ---- the tests at a place that is low enough
   needed-near : (at : ℕ) → at < n → needed (take n s) at ≡ needed s at
@@ -260,37 +283,54 @@ module _ (n : ℕ) (s : List ℕ) where
       rest : {x : Unit {0}} → notMany at left ≡ accepted x → 0 < left
       rest e = omega (arith, eqb-false left 0 (passed _ MANY at 0 e))
 
-  -- repeated fields, where there is room for all that may come and for one header more
-  module _ {A : Type 0} (ends : List ℕ → ℕ → Bool) (tag size : ℕ) (wrong : A → ℕ) (value : List ℕ → ℕ → A)
+  -- repeated fields, where there is room for all that may come, each of at most so many bytes, and for one header more
+  module _ {A : Type 0} (ends : List ℕ → ℕ → Bool) (tag : ℕ) (size wrong : List ℕ → ℕ → ℕ) (value : List ℕ → ℕ → A) (most : ℕ)
       (alike : (at : ℕ) → at + 3 ≤ n → ends (take n s) at ≡ ends s at)
-      (same : (at : ℕ) → at + 3 + size ≤ n → value (take n s) at ≡ value s at) where
-    fields-near : (left at : ℕ) → at + left * (3 + size) + 3 ≤ n
+      (sizes : (at : ℕ) → at + 3 ≤ n → size (take n s) at ≡ size s at)
+      (less : (at : ℕ) → size s at ≤ most)
+      (ranges : (at : ℕ) → at + 3 + most ≤ n → wrong (take n s) at ≡ wrong s at)
+      (same : (at : ℕ) → at + 3 + most ≤ n → value (take n s) at ≡ value s at) where
+    -- the tests of one field
+    test-near : (left at : ℕ) → at + 3 ≤ n → (0 < left → at + 3 + most ≤ n)
+        → repeatTest (take n s) at left tag (size (take n s) at) (wrong (take n s) at) ≡ repeatTest s at left tag (size s at) (wrong s at)
+    test-near left at h may =
+        ap (λ (k : ℕ). repeatTest (take n s) at left tag k (wrong (take n s) at)) (sizes at h)
+        ∙ repeat-near at left tag (size s at) h (λ m. (omega (arith, may m, less at), ranges at (may m)))
+
+    fields-near : (left at : ℕ) → at + left * (3 + most) + 3 ≤ n
         → fieldsFrom ends tag size wrong value (take n s) left at ≡ fieldsFrom ends tag size wrong value s left at
     fields-near zero at h =
         cc (
           fields-end ends tag size wrong value (take n s) at,
           fields-end ends tag size wrong value s at,
           alike at (omega arith),
-          repeat-near at 0 tag size {fine = wrong (value (take n s) at)} {wrong = wrong (value s at)} (omega arith) (λ h. absurd (omega arith)),
+          test-near 0 at (omega arith) (λ h. absurd (omega arith)),
         )
     fields-near (suc left) at h =
-        let here : value (take n s) at ≡ value s at = same at (omega arith) in
         cc (
           fields-next ends tag size wrong value (take n s) left at,
           fields-next ends tag size wrong value s left at,
           alike at (omega arith),
-          repeat-near at (suc left) tag size (omega arith) (λ _. (omega arith, ap wrong here)),
-          fields-near left (at + 3 + size) (omega arith),
+          test-near (suc left) at (omega arith) (λ _. omega arith),
+          same at (omega arith),
+          sizes at (omega arith),
+          fields-near left (at + 3 + size s at) (omega (arith, less at)),
         )
 
-  -- the operations' fields: 32 of 21 bytes, and one header more
+  -- the operations' fields: 32 of at most 23 bytes, and one header more
   done-near : (H : Table) (at : ℕ) → at + 3 ≤ n → opsDone H (take n s) at ≡ opsDone H s at
   unfolding opsDone
   done-near H at h = cc (ends-near at (omega arith), num8-near at (omega arith))
 
-  ops-near : (H : Table) (at : ℕ) → at + 675 ≤ n → opsFrom H (take n s) 32 at ≡ opsFrom H s 32 at
+  ops-near : (H : Table) (at : ℕ) → at + 739 ≤ n → opsFrom H (take n s) 32 at ≡ opsFrom H s 32 at
   unfolding opsFrom
-  ops-near H at h = fields-near (opsDone H) 4 18 (opWrong H) opAt (done-near H) (λ i k. op-near i (omega arith)) 32 at (omega arith)
+  ops-near H at h =
+      fields-near (opsDone H) 4 sizeAt (wrongAt H) opAt 20 (done-near H)
+      (λ i k. ap opSize (form-near i k))
+      (λ i. form-most (heldAt s i))
+      (λ i k. cc (form-near i (omega arith), op-near i (omega arith)))
+      (λ i k. op-near i (omega arith))
+      32 at (omega arith)
 
   -- the decider's field of 4 bytes, and one header more
   nothing-near : (at : ℕ) → at + 3 ≤ n → nothingDue (take n s) at ≡ nothingDue s at
@@ -328,7 +368,9 @@ module _ (n : ℕ) (s : List ℕ) where
       (λ _ _.
       rw period
       (ap (λ (v : Verdict (List Row)). onwards v (λ rs. accepted (record { period = ticks (num16 s 3); rows = rs })))
-      (fields-near atEnd 18 4 (rowWrong (ticks (num16 s 3))) rowAt (λ i k. ends-near i (omega arith)) (λ i k. row-near i (omega arith)) 32 5 (omega arith))))
+      (fields-near atEnd 18 (λ s at. 4) (λ t at. rowWrong (ticks (num16 s 3)) (rowAt t at)) rowAt 4 (λ i k. ends-near i (omega arith)) (λ i k. refl) (λ i. omega arith)
+      (λ i k. ap (rowWrong (ticks (num16 s 3))) (row-near i (omega arith)))
+      (λ i k. row-near i (omega arith)) 32 5 (omega arith))))
       ∙ sym (reply-row s)
 
   -- ---- the whole input
@@ -367,7 +409,7 @@ module _ (n : ℕ) (s : List ℕ) where
         (cc (field-near 11 3 (4 + 4 * headOf s .modes) (omega arith) refl, needed-near (opsPlace (headOf s .modes)) (omega arith)))))
         ∙ sym (head-row s)
 
-    -- the first n bytes have the verdict of the whole input, for every n from 825 on
+    -- the first n bytes have the verdict of the whole input, for every n from 889 on
     pub judge-front : judge (take n s) ≡ judge s
     judge-front =
         judge-row (take n s)
@@ -377,14 +419,14 @@ module _ (n : ℕ) (s : List ℕ) where
         rw (head-near few)
         (ap (λ (v : Verdict (List Op)). onwards v (λ os. judgeBehind (take n s) (withOps (headOf s) os))) (ops-near (headOf s) (opsPlace (headOf s .modes)) (omega arith))
         ∙ onwards-same _ (λ os. judgeBehind (take n s) (withOps (headOf s) os)) (λ os. judgeBehind s (withOps (headOf s) os))
-        (λ os come. behind-near (withOps (headOf s) os) (omega (arith, few, ops-passing s (headOf s) _ os come .few)))))
+        (λ os come. behind-near (withOps (headOf s) os) (omega (arith, few, size-most os, ops-passing s (headOf s) _ os come .few)))))
         ∙ sym (judge-row s)
 
--- "no answer depends on bytes past 821", which "become .. 825"
+-- "no answer depends on bytes past 889"
 pub judge-near : (s : List ℕ) → judge (take farthest s) ≡ judge s
 judge-near s = judge-front farthest s (omega arith)
 
--- two inputs that differ only past byte 825 have one verdict
+-- two inputs that differ only past byte 889 have one verdict
 pub no-farther : (s t : List ℕ) → take farthest s ≡ take farthest t → judge s ≡ judge t
 no-farther s t e = sym (judge-near s) ∙ ap judge e ∙ judge-near t
 

@@ -32,5 +32,7 @@ pub mod RoundTrip
 pub mod Keeps
 pub mod Margins
 pub mod DeciderBefore
+pub mod Holds
+pub mod HoldBefore
 pub mod Bench
 pub mod ShutOut

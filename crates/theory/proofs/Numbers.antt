@@ -3,197 +3,331 @@
 -- Assumes nothing.
 use Prim.Native.Nat.{ℕ, zero, suc, _+_, _-_, _*_, _^_, _<_, _≤_}
 use mathlib.Core.Path.{_≡_, refl, sym, ap, subst, _∙_}
-use mathlib.Core.Bool.{true, false, not, cond}
+use mathlib.Core.Bool.{Bool, true, false, not, cond}
 use mathlib.Core.List.{List, [], _∷_, _++_, append-assoc}
+use mathlib.Core.Logic.{_⊎_, inl, inr}
 use native.Mathlib.Decide.{ℕ-discrete}
 use native.Mathlib.Omega.{arith}
-use lib.Dec.{eqb, eqb·suc-zero}
+use lib.Dec.{eqb}
 use lib.ListN.{length, getD, take, drop, length-append, length-drop}
 use lib.Pow.{pow-mono}
 use lib.Seq.{drop-drop}
 use borrow.Author.Tests.{le-leb, lt-leb, le-ltb, lt-ltb, eq-eqb, ne-eqb}
 use Rattle.rules.specs.Table.{Op, Decider, nobody, decides, Table, noOp, nops, op, SetOf, Accepted}
 use Rattle.rules.specs.Verdicts.{Verdict, accepted, refused, SHORT, SIZE, ORDER, MANY, RANGE, Test, refuseIf, _then_, onwards, more}
-use Rattle.rules.specs.Bytes.{num8, num16, num32, words, be32, joined, opAt, opBytes, headBytes, deciderBytes, tableBytes}
-use Rattle.rules.specs.Judge.{needed, notMany, ranged, fieldTest, repeatTest, fieldsFrom, lenWrong, countsWrong, setsWrong, opWrong, deciderWrong, judgeWhole, headOf, withOps, withDecider, opsPlace, opsEnd, opsDone, opsFrom, deciderAt, deciderTest, judgeBehind, judge, Numbers, opOfNumbers, headOfNumbers, deciderOf, numbersTest, opsOfNumbers, judgeDecider, judgeNumbers}
-use Rattle.theory.specs.Numbers.{opNumbers, markOf, numberOf, numbersOf, opsBytes, numbersBytes, CountsFit, SetsFit, OpFits, opAmong, NumbersFit}
-use Rattle.theory.proofs.Verdicts.{passes, refuses, then-accepts, then-refuses, then-same, then-again, then-assoc, onwards-accepts, onwards-refuses, onwards-same, more-accepts, more-refuses}
-use Rattle.theory.proofs.Ranges.{len-high, decider-high, ranged-yes, ranged-no}
-use Rattle.theory.proofs.Judging.{HeadOk, says-sets, op-passed, op-passes, says-len, says-counts, says-decider, decider-there, whole-accepts, done-end, done-05, done-not, head-row, behind-row, judge-row, numbers-end, numbers-next, numbers-passing, numbers-row, judgeDecider-row, judgeNumbers-row}
-use Rattle.theory.proofs.Bytes.{past8, past16, two-bytes, four-bytes, words-back, op-back, joined-length, words-length, head-length, field-size, field-whole, field-many, field-more, field-order, no-field, decider-back, decider-tested, fieldsOf, fields-accepted, first-tag, first-whole, first-size, op-repeated}
+use Rattle.rules.specs.Bytes.{num8, num16, num32, words, be16, be32, joined, opSize, opForm, settles, opBytes, headBytes, deciderBytes, tableBytes, opAt}
+use Rattle.rules.specs.Judge.{needed, notMany, ranged, fieldTest, repeatTest, fieldsFrom, lenWrong, countsWrong, setsWrong, opWrong, deciderWrong, judgeWhole, headOf, withOps, withDecider, opsPlace, opsSize, opsEnd, opsDone, sizeAt, wrongAt, opsFrom, deciderAt, deciderTest, judgeBehind, judge, Numbers, markedOf, opOfNumbers, headOfNumbers, deciderOf, noneLeft, numbersTest, opsOfNumbers, judgeDecider, judgeNumbers}
+use Rattle.theory.specs.Holds.{Plain, stepWrong}
+use Rattle.theory.specs.Numbers.{opNumbers, holdNumbers, markOf, numberOf, numbersOf, Cut, cutBytes, opsBytes, numbersBytes, CountsFit, SetsFit, OpFits, opAmong, markAmong, placeAmong, NumbersFit}
+use Rattle.theory.proofs.Says.{says-or, says-ltb}
+use Rattle.theory.proofs.Verdicts.{never-refused, passes, refuses, then-first, then-rest, more-first, then-accepts, then-refuses, then-same, then-again, then-assoc, onwards-accepts, onwards-refuses, onwards-same, more-accepts, more-refuses}
+use Rattle.theory.proofs.Ranges.{len-high, decider-high, range-passed, ranged-yes, ranged-no}
+use Rattle.theory.proofs.Judging.{HeadOk, says-sets, own-plain, own-form, own-wrong, plain-handed, op-passed, op-passes, head-wrong, fields-end, fields-next, form-least, size-none, size-more, Counted, says-len, says-counts, says-decider, decider-there, whole-accepts, done-end, done-05, done-not, head-row, behind-row, judge-row, numbers-end, numbers-next, numbers-passing, numbers-row, judgeDecider-row, judgeNumbers-row}
+use Rattle.theory.proofs.Bytes.{past8, past16, two-bytes, four-bytes, words-back, form-back, op-back, joined-length, words-length, head-length, field-size, field-whole, spare, no-more, repeat-cut, value-cut, field-many, field-more, field-order, no-field, decider-back, decider-tested, fieldsOf, fields-accepted, first-tag, first-whole, first-size, op-repeated}
 
 -- ---- the operations' numbers
 
--- numbers that are written end where there are none
-some-bytes : (last ns : List ℕ) → 0 < length ns → 0 < length (opsBytes last ns)
+-- what is written of numbers that are there
+some-bytes : (cut : Cut) (last ns hs : List ℕ) → 0 < length ns + length hs → 0 < length (opsBytes cut last ns hs)
 unfolding opsBytes
-some-bytes last [] h = omega arith
-some-bytes last (t ∷ []) h = omega arith
-some-bytes last (t ∷ d ∷ []) h = omega arith
-some-bytes last (t ∷ d ∷ b ∷ []) h = omega arith
-some-bytes last (t ∷ d ∷ b ∷ r ∷ []) h = omega arith
-some-bytes last (t ∷ d ∷ b ∷ r ∷ w ∷ []) h = omega arith
-some-bytes last (t ∷ d ∷ b ∷ r ∷ w ∷ m ∷ ns) h = omega arith
+some-bytes cut last [] [] h = omega arith
+some-bytes cut last [] (k ∷ hs) h = omega arith
+some-bytes cut last (t ∷ []) hs h = omega arith
+some-bytes cut last (t ∷ d ∷ []) hs h = omega arith
+some-bytes cut last (t ∷ d ∷ b ∷ []) hs h = omega arith
+some-bytes cut last (t ∷ d ∷ b ∷ r ∷ []) hs h = omega arith
+some-bytes cut last (t ∷ d ∷ b ∷ r ∷ w ∷ []) hs h = omega arith
+some-bytes cut last (t ∷ d ∷ b ∷ r ∷ w ∷ m ∷ ns) [] h = omega arith
+some-bytes cut last (t ∷ d ∷ b ∷ r ∷ w ∷ m ∷ ns) (k ∷ []) h = omega arith
+some-bytes cut last (t ∷ d ∷ b ∷ r ∷ w ∷ m ∷ ns) (k ∷ h ∷ hs) some =
+    some-form (markedOf (k ∷ [])) (opOfNumbers (t ∷ d ∷ b ∷ r ∷ w ∷ m ∷ []) (k ∷ h ∷ [])) (opsBytes cut last ns hs)
+  where
+    some-form : (held : Bool) (o : Op) (post : List ℕ) → 0 < length (opForm held o ++ post)
+    some-form false o post = omega arith
+    some-form true o post = omega arith
 
-no-bytes : (last ns : List ℕ) → length ns ≡ 0 → opsBytes last ns ≡ last
+no-bytes : (cut : Cut) (last ns hs : List ℕ) → length ns + length hs ≡ 0 → opsBytes cut last ns hs ≡ last
 unfolding opsBytes
-no-bytes last [] h = refl
-no-bytes last (t ∷ ns) h = absurd (omega arith)
+no-bytes cut last [] [] h = refl
+no-bytes cut last [] (k ∷ hs) h = absurd (omega arith)
+no-bytes cut last (t ∷ ns) hs h = absurd (omega arith)
 
--- what is last comes behind k whole operations
-last-behind : (last ns : List ℕ) (k : ℕ) → length ns ≡ k * 6 → (front : List ℕ) × (length front ≡ 21 * k) × (opsBytes last ns ≡ front ++ last)
-unfolding opsBytes
-last-behind last [] k e = ([], omega arith, refl)
-last-behind last (t ∷ []) k e = absurd (omega arith)
-last-behind last (t ∷ d ∷ []) k e = absurd (omega arith)
-last-behind last (t ∷ d ∷ b ∷ []) k e = absurd (omega arith)
-last-behind last (t ∷ d ∷ b ∷ r ∷ []) k e = absurd (omega arith)
-last-behind last (t ∷ d ∷ b ∷ r ∷ w ∷ []) k e = absurd (omega arith)
-last-behind last (t ∷ d ∷ b ∷ r ∷ w ∷ m ∷ ns) zero e = absurd (omega arith)
-last-behind last (t ∷ d ∷ b ∷ r ∷ w ∷ m ∷ ns) (suc k) e =
-    let (front, long, same) = last-behind last ns k (omega arith) in
-    let first = opBytes (record { start = t; dur = d; boards = b; reads = r; writes = w; modes = m }) in
-    (first ++ front, omega (arith, length-append first front), ap (λ (l : List ℕ). first ++ l) same ∙ sym (append-assoc first front last))
+module _ (H : Table) (ns hs : List ℕ) (at : ℕ) where
+  -- something is left
+  left-over : 0 < length ns + length hs → noneLeft ns hs ≡ false
+  left-over some = ne-eqb (length ns + length hs) 0 (λ e. omega arith)
 
-module _ (H : Table) (ns : List ℕ) (at : ℕ) where
   -- the numbers of an operation, where no more may come and where one may
-  many-numbers : 0 < length ns → opsOfNumbers H ns zero at ≡ refused MANY at 0
+  many-numbers : 0 < length ns + length hs → opsOfNumbers H ns hs zero at ≡ refused MANY at 0
   unfolding notMany
   many-numbers some =
-      numbers-end H ns at ∙ rw (ne-eqb (length ns) 0 (λ e. omega arith)) (then-refuses (accepted []) (refuses (eqb 0 0) MANY at 0 refl))
+      numbers-end H ns hs at ∙ rw (left-over some) (then-refuses (accepted []) (refuses (eqb 0 0) MANY at 0 refl))
 
-  short-numbers : (left : ℕ) → 0 < length ns → length ns < 6 → opsOfNumbers H ns (suc left) at ≡ refused SHORT at 0
+  short-numbers : (left : ℕ) → 0 < length ns + length hs → (length ns < 6) ⊎ (length hs < 2) → opsOfNumbers H ns hs (suc left) at ≡ refused SHORT at 0
   short-numbers left some few =
-      numbers-next H ns left at
-      ∙ rw (ne-eqb (length ns) 0 (λ e. omega arith)) (then-refuses _ (refuses _ SHORT at 0 (lt-ltb (length ns) 6 few)))
+      numbers-next H ns hs left at
+      ∙ rw (left-over some) (then-refuses _ (refuses _ SHORT at 0 (says-or _ _ (says-ltb (length ns) 6) (says-ltb (length hs) 2) .1 few)))
 
-  whole-numbers : (left : ℕ) → 6 ≤ length ns
-      → opsOfNumbers H ns (suc left) at
-      ≡ (ranged (opWrong H (opOfNumbers ns)) at then more (opOfNumbers ns) (opsOfNumbers H (drop 6 ns) left (at + 21)))
-  whole-numbers left all =
-      numbers-next H ns left at
-      ∙ rw (ne-eqb (length ns) 0 (λ e. omega arith)) (then-accepts _ (passes _ SHORT at 0 (le-ltb (length ns) 6 all)))
+  whole-numbers : (left : ℕ) → 6 ≤ length ns → 2 ≤ length hs
+      → opsOfNumbers H ns hs (suc left) at
+      ≡ (ranged (opWrong H (markedOf hs) (opOfNumbers ns hs)) at
+      then more (opOfNumbers ns hs) (opsOfNumbers H (drop 6 ns) (drop 2 hs) left (at + 3 + opSize (markedOf hs))))
+  whole-numbers left six two =
+      numbers-next H ns hs left at
+      ∙ rw (left-over (omega arith)) (then-accepts _ (passes _ SHORT at 0 (rw (le-ltb (length ns) 6 six, le-ltb (length hs) 2 two))))
 
 -- an operation with numbers missing: MANY where it is a 33rd, SHORT where it is not
-cut : ℕ → ℕ → Verdict (List Op)
-cut zero at = refused MANY at 0
-cut (suc left) at = refused SHORT at 0
+cut-off : ℕ → ℕ → Verdict (List Op)
+cut-off zero at = refused MANY at 0
+cut-off (suc left) at = refused SHORT at 0
 
-cut-numbers : (H : Table) (ns : List ℕ) (left at : ℕ) → 0 < length ns → length ns < 6 → opsOfNumbers H ns left at ≡ cut left at
-unfolding cut
-cut-numbers H ns zero at some few = many-numbers H ns at some
-cut-numbers H ns (suc left) at some few = short-numbers H ns at left some few
+cut-numbers : (H : Table) (ns hs : List ℕ) (left at : ℕ) → 0 < length ns + length hs → (length ns < 6) ⊎ (length hs < 2)
+    → opsOfNumbers H ns hs left at ≡ cut-off left at
+unfolding cut-off
+cut-numbers H ns hs zero at some few = many-numbers H ns hs at some
+cut-numbers H ns hs (suc left) at some few = short-numbers H ns hs at left some few
 
-module _ (H : Table) (pre there : List ℕ) (n : ℕ) (place : n ≡ length pre) (few : length there < 18) where
-  abbrev cut-field : List ℕ
-  cut-field = pre ++ (4 ∷ 0 ∷ 18 ∷ there)
+-- the operations' fields from a place on
+abbrev from : Table → List ℕ → ℕ → ℕ → Verdict (List Op)
+from H s left n = fieldsFrom (opsDone H) 4 sizeAt (wrongAt H) opAt s left n
 
-  cut-size : length cut-field ≡ n + 3 + length there
-  cut-size = omega (arith, length-append pre (4 ∷ 0 ∷ 18 ∷ there))
+module _ (H : Table) (pre there : List ℕ) (n : ℕ) (place : n ≡ length pre) where
+  -- a header that says how long the value is, and fewer bytes behind it
+  module _ (size : ℕ) (few : length there < size) (is : sizeAt (pre ++ (4 ∷ 0 ∷ size ∷ there)) n ≡ size) where
+    abbrev cut-field : List ℕ
+    cut-field = pre ++ (4 ∷ 0 ∷ size ∷ there)
 
-  cut-tag : num8 cut-field n ≡ 4
-  cut-tag = past8 pre (4 ∷ 0 ∷ 18 ∷ there) n 0 (omega arith)
+    cut-size : length cut-field ≡ n + 3 + length there
+    cut-size = omega (arith, length-append pre (4 ∷ 0 ∷ size ∷ there))
 
-  cut-on : opsDone H cut-field n ≡ false
-  cut-on = done-not H cut-field n (omega (arith, cut-size)) (λ _ e. omega (arith, cut-tag))
+    cut-tag : num8 cut-field n ≡ 4
+    cut-tag = past8 pre (4 ∷ 0 ∷ size ∷ there) n 0 (omega arith)
 
-  cut-bytes : (left : ℕ) → fieldsFrom (opsDone H) 4 18 (opWrong H) opAt cut-field left n ≡ cut left n
-  unfolding fieldsFrom repeatTest cut
-  cut-bytes zero =
-      simp (
-        cut-on,
-        le-ltb (length cut-field) (n + 3) (omega (arith, cut-size)),
-        eq-eqb (num8 cut-field n) 4 cut-tag,
-      )
-  cut-bytes (suc left) =
-      simp (
-        cut-on,
-        le-ltb (length cut-field) (n + 3) (omega (arith, cut-size)),
-        eq-eqb (num8 cut-field n) 4 cut-tag,
-        eqb·suc-zero,
-        eq-eqb (num16 cut-field (n + 1)) 18 (past16 pre (4 ∷ 0 ∷ 18 ∷ there) (n + 1) 1 (omega arith)),
-        lt-ltb (length cut-field) (n + 3 + 18) (omega (arith, cut-size)),
-      )
+    cut-on : opsDone H cut-field n ≡ false
+    cut-on = done-not H cut-field n (omega (arith, cut-size)) (λ _ e. omega (arith, cut-tag))
+
+    cut-known : num16 cut-field (n + 1) ≡ sizeAt cut-field n
+    cut-known =
+        let low : num16 (4 ∷ 0 ∷ size ∷ there) 1 ≡ size = omega arith in
+        past16 pre (4 ∷ 0 ∷ size ∷ there) (n + 1) 1 (omega arith) ∙ low ∙ sym is
+
+    cut-bytes : (left : ℕ) → from H cut-field left n ≡ cut-off left n
+    unfolding cut-off
+    cut-bytes zero =
+        fields-end (opsDone H) 4 sizeAt (wrongAt H) opAt cut-field n
+        ∙ rw cut-on (then-refuses _ (repeat-cut cut-field n 4 (sizeAt cut-field n) (wrongAt H cut-field n) cut-tag (omega (arith, cut-size)) 0 ∙ then-refuses _ (no-more n)))
+    cut-bytes (suc left) =
+        fields-next (opsDone H) 4 sizeAt (wrongAt H) opAt cut-field left n
+        ∙ rw cut-on (then-refuses _
+        (repeat-cut cut-field n 4 (sizeAt cut-field n) (wrongAt H cut-field n) cut-tag (omega (arith, cut-size)) (suc left)
+        ∙ then-accepts _ (spare n left)
+        ∙ value-cut cut-field n (sizeAt cut-field n) (wrongAt H cut-field n) cut-known (omega (arith, cut-size, is))))
+
+  -- of either form
+  form-cut : (form : Bool) → length there < opSize form → (left : ℕ) → from H (pre ++ (4 ∷ be16 (opSize form) ++ there)) left n ≡ cut-off left n
+  form-cut false few left = cut-bytes 18 few (ap (λ (x : ℕ). opSize (eqb x 20)) (past16 pre (4 ∷ 0 ∷ 18 ∷ there) (n + 1) 1 (omega arith))) left
+  form-cut true few left = cut-bytes 20 few (ap (λ (x : ℕ). opSize (eqb x 20)) (past16 pre (4 ∷ 0 ∷ 20 ∷ there) (n + 1) 1 (omega arith))) left
 
 -- the operations behind the first
-pub after-op : (ns : List ℕ) (j : ℕ) → opAmong (drop 6 ns) j ≡ opAmong ns (suc j)
-after-op ns j =
-    let next : 6 + 6 * j ≡ 6 * suc j = omega arith in
-    ap opOfNumbers (drop-drop (6 * j) 6 ns ∙ ap (λ (i : ℕ). drop i ns) next)
+pub after-op : (ns hs : List ℕ) (j : ℕ) → opAmong (drop 6 ns) (drop 2 hs) j ≡ opAmong ns hs (suc j)
+after-op ns hs j =
+    let six : 6 + 6 * j ≡ 6 * suc j = omega arith in
+    let two : 2 + 2 * j ≡ 2 * suc j = omega arith in
+    ap (λ (l : List ℕ). opOfNumbers l (drop (2 * j) (drop 2 hs))) (drop-drop (6 * j) 6 ns ∙ ap (λ (i : ℕ). drop i ns) six)
+    ∙ ap (opOfNumbers (drop (6 * suc j) ns)) (drop-drop (2 * j) 2 hs ∙ ap (λ (i : ℕ). drop i hs) two)
+
+pub after-mark : (hs : List ℕ) (j : ℕ) → markAmong (drop 2 hs) j ≡ markAmong hs (suc j)
+after-mark hs j =
+    let two : 2 + 2 * j ≡ 2 * suc j = omega arith in
+    ap markedOf (drop-drop (2 * j) 2 hs ∙ ap (λ (i : ℕ). drop i hs) two)
 
 -- behind operations comes who decides: there they end
 ops-last : (H : Table) (who : Decider) (pre : List ℕ) (n : ℕ) → n ≡ length pre → opsPlace (H .modes) < n → opsDone H (pre ++ deciderBytes who) n ≡ true
 ops-last H nobody pre n place some = done-end H (pre ++ []) n (omega (arith, length-append pre []))
 ops-last H (decides d) pre n place some = done-05 H (pre ++ (5 ∷ 0 ∷ 1 ∷ d ∷ [])) n some (past8 pre (5 ∷ 0 ∷ 1 ∷ d ∷ []) n 0 (omega arith))
 
+-- an operation's field, written behind some bytes: where no more may come, and where one may
+module _ (H : Table) (held : Bool) (o : Op) (fits : OpFits o) (plain : Plain held o) (pre post : List ℕ) (n : ℕ) (place : n ≡ length pre) where
+  abbrev written : List ℕ
+  written = pre ++ (opForm held o ++ post)
+
+  size-here : sizeAt written n ≡ opSize held
+  size-here = ap opSize (form-back pre post n place held o)
+
+  tag-here : num8 written n ≡ 4
+  tag-here = first-tag (op-repeated held) o pre post n place
+
+  whole-here : n + 3 + sizeAt written n ≤ length written
+  whole-here = omega (arith, first-whole (op-repeated held) o pre post n place, size-here)
+
+  length-here : num16 written (n + 1) ≡ sizeAt written n
+  length-here = first-size (op-repeated held) o pre post n place ∙ sym size-here
+
+  on-here : opsDone H written n ≡ false
+  on-here = done-not H written n (omega (arith, whole-here)) (λ _ e. omega (arith, tag-here))
+
+  field-33 : from H written 0 n ≡ refused MANY n 0
+  field-33 = field-many (opsDone H) 4 sizeAt (wrongAt H) opAt written n on-here tag-here whole-here length-here
+
+  field-on : (left : ℕ)
+      → from H written (suc left) n ≡ (ranged (opWrong H held o) n then more o (from H written left (n + 3 + opSize held)))
+  field-on left =
+      let back = op-back pre post n place held o fits plain in
+      field-more (opsDone H) 4 sizeAt (wrongAt H) opAt written n on-here tag-here whole-here length-here left
+      ∙ rw (form-back pre post n place held o, back)
+
 -- where the whole operations fit, the numbers are judged as their bytes; there is one at least, here or before
-module _ (H : Table) (who : Decider) where
-  abbrev behind : List ℕ → List ℕ
-  behind = opsBytes (deciderBytes who)
+module _ (H : Table) (cut : Cut) (who : Decider) where
+  abbrev behind : List ℕ → List ℕ → List ℕ
+  behind = opsBytes cut (deciderBytes who)
 
-  abbrev from : List ℕ → ℕ → ℕ → Verdict (List Op)
-  from s left n = fieldsFrom (opsDone H) 4 18 (opWrong H) opAt s left n
+  -- one with numbers missing
+  cut-same : (ns hs pre : List ℕ) (left n : ℕ) → n ≡ length pre → 0 < length ns + length hs → (length ns < 6) ⊎ (length hs < 2)
+      → from H (pre ++ cutBytes cut) left n ≡ opsOfNumbers H ns hs left n
+  cut-same ns hs pre left n place some few = form-cut H pre (cut .there) n place (cut .form) (cut .few) left ∙ sym (cut-numbers H ns hs left n some few)
 
-  -- an operation's field
-  op-on : (o : Op) (pre post : List ℕ) (n : ℕ) → n ≡ length pre → opsDone H (pre ++ (opBytes o ++ post)) n ≡ false
-  op-on o pre post n place =
-      done-not H (pre ++ (opBytes o ++ post)) n (omega (arith, first-whole op-repeated o pre post n place)) (λ _ e. omega (arith, first-tag op-repeated o pre post n place))
-
-  ops-written : (ns pre : List ℕ) (left n : ℕ) → n ≡ length pre → opsPlace (H .modes) < n + length ns
-      → ((k : ℕ) → 6 * k + 6 ≤ length ns → OpFits (opAmong ns k))
-      → from (pre ++ behind ns) left n ≡ opsOfNumbers H ns left n
+  ops-written : (ns hs pre : List ℕ) (left n : ℕ) → n ≡ length pre → opsPlace (H .modes) < n + length ns + length hs
+      → ((k : ℕ) → 6 * k + 6 ≤ length ns → 2 * k + 2 ≤ length hs → OpFits (opAmong ns hs k))
+      → from H (pre ++ behind ns hs) left n ≡ opsOfNumbers H ns hs left n
   unfolding opsBytes
-  ops-written [] pre left n place some fit =
-      no-field (opsDone H) 4 18 (opWrong H) opAt (pre ++ deciderBytes who) n left (ops-last H who pre n place (omega arith)) ∙ sym (none left)
+  ops-written [] [] pre left n place some fit =
+      no-field (opsDone H) 4 sizeAt (wrongAt H) opAt (pre ++ deciderBytes who) n left (ops-last H who pre n place (omega arith)) ∙ sym (none left)
     where
-      none : (left : ℕ) → opsOfNumbers H [] left n ≡ accepted []
-      none zero = numbers-end H [] n
-      none (suc left) = numbers-next H [] left n
-  ops-written (t ∷ []) pre left n place some fit =
-      cut-bytes H pre _ n place (omega arith) left ∙ sym (cut-numbers H (t ∷ []) left n (omega arith) (omega arith))
-  ops-written (t ∷ d ∷ []) pre left n place some fit =
-      cut-bytes H pre _ n place (omega arith) left ∙ sym (cut-numbers H (t ∷ d ∷ []) left n (omega arith) (omega arith))
-  ops-written (t ∷ d ∷ b ∷ []) pre left n place some fit =
-      cut-bytes H pre _ n place (omega arith) left ∙ sym (cut-numbers H (t ∷ d ∷ b ∷ []) left n (omega arith) (omega arith))
-  ops-written (t ∷ d ∷ b ∷ r ∷ []) pre left n place some fit =
-      cut-bytes H pre _ n place (omega arith) left ∙ sym (cut-numbers H (t ∷ d ∷ b ∷ r ∷ []) left n (omega arith) (omega arith))
-  ops-written (t ∷ d ∷ b ∷ r ∷ w ∷ []) pre left n place some fit =
-      cut-bytes H pre _ n place (omega arith) left ∙ sym (cut-numbers H (t ∷ d ∷ b ∷ r ∷ w ∷ []) left n (omega arith) (omega arith))
-  ops-written (t ∷ d ∷ b ∷ r ∷ w ∷ m ∷ ns) pre left n place some fit =
+      none : (left : ℕ) → opsOfNumbers H [] [] left n ≡ accepted []
+      none zero = numbers-end H [] [] n
+      none (suc left) = numbers-next H [] [] left n
+  ops-written [] (k ∷ hs) pre left n place some fit = cut-same [] (k ∷ hs) pre left n place (omega arith) (inl (omega arith))
+  ops-written (t ∷ []) hs pre left n place some fit = cut-same (t ∷ []) hs pre left n place (omega arith) (inl (omega arith))
+  ops-written (t ∷ d ∷ []) hs pre left n place some fit = cut-same (t ∷ d ∷ []) hs pre left n place (omega arith) (inl (omega arith))
+  ops-written (t ∷ d ∷ b ∷ []) hs pre left n place some fit = cut-same (t ∷ d ∷ b ∷ []) hs pre left n place (omega arith) (inl (omega arith))
+  ops-written (t ∷ d ∷ b ∷ r ∷ []) hs pre left n place some fit = cut-same (t ∷ d ∷ b ∷ r ∷ []) hs pre left n place (omega arith) (inl (omega arith))
+  ops-written (t ∷ d ∷ b ∷ r ∷ w ∷ []) hs pre left n place some fit = cut-same (t ∷ d ∷ b ∷ r ∷ w ∷ []) hs pre left n place (omega arith) (inl (omega arith))
+  ops-written (t ∷ d ∷ b ∷ r ∷ w ∷ m ∷ ns) [] pre left n place some fit =
+      cut-same (t ∷ d ∷ b ∷ r ∷ w ∷ m ∷ ns) [] pre left n place (omega arith) (inr (omega arith))
+  ops-written (t ∷ d ∷ b ∷ r ∷ w ∷ m ∷ ns) (k ∷ []) pre left n place some fit =
+      cut-same (t ∷ d ∷ b ∷ r ∷ w ∷ m ∷ ns) (k ∷ []) pre left n place (omega arith) (inr (omega arith))
+  ops-written (t ∷ d ∷ b ∷ r ∷ w ∷ m ∷ ns) (k ∷ h ∷ hs) pre left n place some fit =
       whole left
-      (λ pre′ left′ n′ place′ some′. ops-written ns pre′ left′ n′ place′ some′ (λ k h. subst OpFits (sym (after-op (t ∷ d ∷ b ∷ r ∷ w ∷ m ∷ ns) k)) (fit (suc k) (omega arith))))
+      (λ pre′ left′ n′ place′ some′.
+      ops-written ns hs pre′ left′ n′ place′ some′ (λ j x y. subst OpFits (sym (after-op all marks j)) (fit (suc j) (omega arith) (omega arith))))
     where
+      all : List ℕ
+      all = t ∷ d ∷ b ∷ r ∷ w ∷ m ∷ ns
+
+      marks : List ℕ
+      marks = k ∷ h ∷ hs
+
+      held : Bool
+      held = markedOf marks
+
       o : Op
-      o = record { start = t; dur = d; boards = b; reads = r; writes = w; modes = m }
+      o = opOfNumbers all marks
 
       whole : (left : ℕ)
-          → ((pre : List ℕ) (left n : ℕ) → n ≡ length pre → opsPlace (H .modes) < n + length ns → from (pre ++ behind ns) left n ≡ opsOfNumbers H ns left n)
-          → from (pre ++ (opBytes o ++ behind ns)) left n ≡ opsOfNumbers H (t ∷ d ∷ b ∷ r ∷ w ∷ m ∷ ns) left n
+          → ((pre : List ℕ) (left n : ℕ) → n ≡ length pre → opsPlace (H .modes) < n + length ns + length hs → from H (pre ++ behind ns hs) left n ≡ opsOfNumbers H ns hs left n)
+          → from H (pre ++ (opForm held o ++ behind ns hs)) left n ≡ opsOfNumbers H all marks left n
       whole zero rest =
-          field-many (opsDone H) 4 18 (opWrong H) opAt _ n
-          (op-on o pre (behind ns) n place)
-          (first-tag op-repeated o pre (behind ns) n place)
-          (first-whole op-repeated o pre (behind ns) n place)
-          (first-size op-repeated o pre (behind ns) n place)
-          ∙ sym (many-numbers H (t ∷ d ∷ b ∷ r ∷ w ∷ m ∷ ns) n (omega arith))
+          field-33 H held o (fit 0 (omega arith) (omega arith)) (plain-handed all marks) pre (behind ns hs) n place
+          ∙ sym (many-numbers H all marks n (omega arith))
       whole (suc left) rest =
-          let first = op-back pre (behind ns) n place o (fit 0 (omega arith)) in
-          let next : n + 3 + 18 ≡ n + 21 = omega arith in
-          let place′ : n + 3 + 18 ≡ length (pre ++ opBytes o) = omega (arith, length-append pre (opBytes o)) in
-          let more = rest (pre ++ opBytes o) left (n + 3 + 18) place′ (omega arith) ∙ ap (opsOfNumbers H ns left) next in
-          field-more (opsDone H) 4 18 (opWrong H) opAt _ n
-          (op-on o pre (behind ns) n place)
-          (first-tag op-repeated o pre (behind ns) n place)
-          (first-whole op-repeated o pre (behind ns) n place)
-          (first-size op-repeated o pre (behind ns) n place)
-          left
-          ∙ rw (first, ← append-assoc, more) (sym (whole-numbers H (t ∷ d ∷ b ∷ r ∷ w ∷ m ∷ ns) n left (omega arith)))
+          let place′ : n + 3 + opSize held ≡ length (pre ++ opForm held o) = omega (arith, length-append pre (opForm held o), op-repeated held .width o) in
+          let more = rest (pre ++ opForm held o) left (n + 3 + opSize held) place′ (omega (arith, form-least held)) in
+          field-on H held o (fit 0 (omega arith) (omega arith)) (plain-handed all marks) pre (behind ns hs) n place left
+          ∙ rw (← append-assoc, more) (sym (whole-numbers H all marks n left (omega arith) (omega arith)))
 
--- a table's numbers are written as the table is
-table-ops : (last : List ℕ) (os : List Op) → opsBytes last (joined opNumbers os) ≡ joined opBytes os ++ last
-unfolding opsBytes joined
-table-ops last [] = refl
-table-ops last (o ∷ os) = ap (λ (l : List ℕ). opBytes o ++ l) (table-ops last os)
+-- what is last comes behind whole operations that are accepted
+module _ (H : Table) (cut : Cut) (last : List ℕ) where
+  Front : List ℕ → List ℕ → List Op → Type 0
+  Front ns hs os = (front : List ℕ) × (length front ≡ opsSize os) × (opsBytes cut last ns hs ≡ front ++ last)
+
+  none-front : (os : List Op) → length os ≡ 0 → Front [] [] os
+  unfolding Front opsBytes
+  none-front [] e = ([], sym size-none, refl)
+  none-front (o ∷ os) e = absurd (omega arith)
+
+  -- of numbers that are accepted, the first operation in its form, and the rest
+  first-accepted : (ns hs : List ℕ) (left at : ℕ) (os : List Op) → opsOfNumbers H ns hs (suc left) at ≡ accepted os → 6 ≤ length ns → 2 ≤ length hs
+      → (us : List Op) × (opsOfNumbers H (drop 6 ns) (drop 2 hs) left (at + 3 + opSize (markedOf hs)) ≡ accepted us)
+      × (markedOf hs ≡ settles (opOfNumbers ns hs)) × (os ≡ opOfNumbers ns hs ∷ us)
+  first-accepted ns hs left at os come six two =
+      let e = sym (whole-numbers H ns hs at left six two) ∙ come in
+      let fine = range-passed _ at (then-first _ _ e .1) in
+      let (us, rest, same) = more-first (opOfNumbers ns hs) _ (then-rest _ _ e) in
+      (us, rest, own-form H (markedOf hs) (opOfNumbers ns hs) (plain-handed ns hs) fine, same)
+
+  one-front : (held : Bool) (o : Op) (us os : List Op) (rest : List ℕ) → held ≡ settles o → os ≡ o ∷ us
+      → (front : List ℕ) × (length front ≡ opsSize us) × (rest ≡ front ++ last)
+      → (front : List ℕ) × (length front ≡ opsSize os) × (opForm held o ++ rest ≡ front ++ last)
+  one-front held o us os rest form same (front, long, spelt) =
+      let first = opForm held o in
+      let size : opsSize os ≡ opsSize (o ∷ us) = ap opsSize same in (
+        first ++ front,
+        omega (arith, length-append first front, op-repeated held .width o, long, size, size-more o us, ap opSize form),
+        ap (λ (l : List ℕ). first ++ l) spelt ∙ sym (append-assoc first front last),
+      )
+
+  last-behind : (ns hs : List ℕ) (left at : ℕ) (os : List Op) → opsOfNumbers H ns hs left at ≡ accepted os → Counted ns hs os → Front ns hs os
+  unfolding Front opsBytes
+  last-behind [] [] left at os come c = none-front os (omega (arith, c .six))
+  last-behind [] (k ∷ hs) left at os come c = absurd (omega (arith, c .six, c .two))
+  last-behind (t ∷ []) hs left at os come c = absurd (omega (arith, c .six))
+  last-behind (t ∷ d ∷ []) hs left at os come c = absurd (omega (arith, c .six))
+  last-behind (t ∷ d ∷ b ∷ []) hs left at os come c = absurd (omega (arith, c .six))
+  last-behind (t ∷ d ∷ b ∷ r ∷ []) hs left at os come c = absurd (omega (arith, c .six))
+  last-behind (t ∷ d ∷ b ∷ r ∷ w ∷ []) hs left at os come c = absurd (omega (arith, c .six))
+  last-behind (t ∷ d ∷ b ∷ r ∷ w ∷ m ∷ ns) [] left at os come c = absurd (omega (arith, c .six, c .two))
+  last-behind (t ∷ d ∷ b ∷ r ∷ w ∷ m ∷ ns) (k ∷ []) left at os come c = absurd (omega (arith, c .two))
+  last-behind (t ∷ d ∷ b ∷ r ∷ w ∷ m ∷ ns) (k ∷ h ∷ hs) zero at os come c =
+      never-refused (sym (many-numbers H (t ∷ d ∷ b ∷ r ∷ w ∷ m ∷ ns) (k ∷ h ∷ hs) at (omega arith)) ∙ come)
+  last-behind (t ∷ d ∷ b ∷ r ∷ w ∷ m ∷ ns) (k ∷ h ∷ hs) (suc left) at os come c =
+      let all = t ∷ d ∷ b ∷ r ∷ w ∷ m ∷ ns in
+      let (us, rest, form, same) = first-accepted all (k ∷ h ∷ hs) left at os come (omega arith) (omega arith) in
+      let behind = last-behind ns hs left _ us rest (numbers-passing H ns hs left _ us rest .1) in
+      one-front (markedOf (k ∷ [])) (opOfNumbers (t ∷ d ∷ b ∷ r ∷ w ∷ m ∷ []) (k ∷ h ∷ [])) us os (opsBytes cut last ns hs) form same behind
+
+front-of : (H : Table) (cut : Cut) (last ns hs : List ℕ) (left at : ℕ) (os : List Op) → opsOfNumbers H ns hs left at ≡ accepted os
+    → (front : List ℕ) × (length front ≡ opsSize os) × (opsBytes cut last ns hs ≡ front ++ last)
+unfolding Front
+front-of H cut last ns hs left at os come = last-behind H cut last ns hs left at os come (numbers-passing H ns hs left at os come .1)
+
+-- a table's numbers are written as the table is: the mark and the hold of an operation say what it is
+mark-back : (o : Op) → markedOf (holdNumbers o) ≡ settles o
+mark-back o = go (settles o)
+  where
+    go : (held : Bool) → not (eqb (cond held 1 0) 0) ≡ held
+    go false = refl
+    go true = refl
+
+hold-back : (o : Op) → cond (markedOf (holdNumbers o)) (o .hold) 0 ≡ o .hold
+hold-back o = go (markedOf (holdNumbers o)) (λ e. own-plain o (sym (mark-back o) ∙ e))
+  where
+    go : (held : Bool) → Plain held o → cond held (o .hold) 0 ≡ o .hold
+    go false plain = sym (plain refl)
+    go true plain = refl
+
+op-numbers : (o : Op) (ns hs : List ℕ) → opOfNumbers (opNumbers o ++ ns) (holdNumbers o ++ hs) ≡ o
+op-numbers o ns hs =
+    λ i.
+    record {
+      start = o .start;
+      dur = o .dur;
+      hold = hold-back o i;
+      boards = o .boards;
+      reads = o .reads;
+      writes = o .writes;
+      modes = o .modes;
+    }
+
+table-ops : (cut : Cut) (last : List ℕ) (os : List Op) → opsBytes cut last (joined opNumbers os) (joined holdNumbers os) ≡ joined opBytes os ++ last
+unfolding opsBytes opBytes joined
+table-ops cut last [] = refl
+table-ops cut last (o ∷ os) =
+    let here : opForm (markedOf (holdNumbers o)) (opOfNumbers (opNumbers o) (holdNumbers o)) ≡ opBytes o =
+    ap (λ (b : Bool). opForm b (opOfNumbers (opNumbers o) (holdNumbers o))) (mark-back o) ∙ ap (opForm (settles o)) (op-numbers o [] [])
+    in
+    ap (λ (l : List ℕ). l ++ opsBytes cut last (joined opNumbers os) (joined holdNumbers os)) here
+    ∙ ap (λ (l : List ℕ). opBytes o ++ l) (table-ops cut last os)
+    ∙ sym (append-assoc (opBytes o) (joined opBytes os) last)
 
 -- who decides, handed over
 marked-back : (T : Table) → deciderOf (numbersOf T) ≡ T .decider
@@ -204,11 +338,11 @@ marked-back T = go (T .decider)
     go nobody = refl
     go (decides d) = refl
 
-pub table-written : (T : Table) → numbersBytes (numbersOf T) ≡ tableBytes T
+pub table-written : (cut : Cut) (T : Table) → numbersBytes cut (numbersOf T) ≡ tableBytes T
 unfolding numbersBytes numbersOf tableBytes
-table-written T =
-    ap (λ (who : Decider). headBytes T ++ opsBytes (deciderBytes who) (joined opNumbers (T .ops))) (marked-back T)
-    ∙ ap (λ (l : List ℕ). headBytes T ++ l) (table-ops (deciderBytes (T .decider)) (T .ops))
+table-written cut T =
+    ap (λ (who : Decider). headBytes T ++ opsBytes cut (deciderBytes who) (joined opNumbers (T .ops)) (joined holdNumbers (T .ops))) (marked-back T)
+    ∙ ap (λ (l : List ℕ). headBytes T ++ l) (table-ops cut (deciderBytes (T .decider)) (T .ops))
 
 -- ---- numbers that fit their fields
 
@@ -234,8 +368,8 @@ module _ (N : Numbers) where
       then ranged (countsWrong (N .boards) (N .cells) (N .modes)) 5
       then refuseIf (not (eqb (length (N .follow)) (N .modes))) SIZE 11 0
       then ranged (setsWrong (N .modes) (N .first ∷ N .follow)) 11
-      then refuseIf (eqb (length (N .ops)) 0) ORDER (opsPlace (N .modes)) 0
-      then onwards (opsOfNumbers (headOfNumbers N) (N .ops) 32 (opsPlace (N .modes))) (λ os. judgeDecider (deciderOf N) (withOps (headOfNumbers N) os))
+      then refuseIf (noneLeft (N .ops) (N .holds)) ORDER (opsPlace (N .modes)) 0
+      then onwards (opsOfNumbers (headOfNumbers N) (N .ops) (N .holds) 32 (opsPlace (N .modes))) (λ os. judgeDecider (deciderOf N) (withOps (headOfNumbers N) os))
 
   numbers-flat : judgeNumbers N ≡ flat-numbers
   unfolding flat-numbers
@@ -244,15 +378,15 @@ module _ (N : Numbers) where
       ∙ rw (numbers-row N)
       (then-assoc _ _ _ ∙ then-again _ (then-assoc _ _ _ ∙ then-again _ (then-assoc _ _ _ ∙ then-again _ (then-assoc _ _ _))))
 
-module _ (N : Numbers) (fits : NumbersFit N) where
+module _ (N : Numbers) (fits : NumbersFit N) (cut : Cut) where
   abbrev bytes : List ℕ
-  bytes = numbersBytes N
+  bytes = numbersBytes cut N
 
   abbrev H : Table
   H = headOfNumbers N
 
   abbrev ops : List ℕ
-  ops = opsBytes (deciderBytes (deciderOf N)) (N .ops)
+  ops = opsBytes cut (deciderBytes (deciderOf N)) (N .ops) (N .holds)
 
   abbrev place : ℕ
   place = opsPlace (N .modes)
@@ -289,7 +423,7 @@ module _ (N : Numbers) (fits : NumbersFit N) where
   as-bytes U = needed bytes (opsPlace (U .modes)) then onwards (opsFrom U bytes 32 (opsPlace (U .modes))) (λ os. judgeBehind bytes (withOps U os))
 
   abbrev as-numbers : Verdict Table
-  as-numbers = refuseIf (eqb (length (N .ops)) 0) ORDER place 0 then onwards (opsOfNumbers H (N .ops) 32 place) (λ os. judgeDecider (deciderOf N) (withOps H os))
+  as-numbers = refuseIf (noneLeft (N .ops) (N .holds)) ORDER place 0 then onwards (opsOfNumbers H (N .ops) (N .holds) 32 place) (λ os. judgeDecider (deciderOf N) (withOps H os))
 
   -- with the right count of follower words
   module _ (count : length (N .follow) ≡ N .modes) where
@@ -310,25 +444,25 @@ module _ (N : Numbers) (fits : NumbersFit N) where
     none-order (decides d) long tag =
         then-accepts _ (passes _ ORDER place 0 (lt-leb (length bytes) place (omega arith)))
         ∙ onwards-refuses _
-        (field-order (opsDone H) 4 18 (opWrong H) opAt bytes place 31 (done-not H bytes place (omega arith) (λ h _. omega arith)) (omega arith) (λ e. omega arith))
+        (field-order (opsDone H) 4 sizeAt (wrongAt H) opAt bytes place 31 (done-not H bytes place (omega arith) (λ h _. omega arith)) (omega arith) (λ e. omega arith))
 
-    none-same : length (N .ops) ≡ 0 → as-bytes H ≡ as-numbers
+    none-same : length (N .ops) + length (N .holds) ≡ 0 → as-bytes H ≡ as-numbers
     unfolding numbersBytes
     none-same none =
         let last = deciderBytes (deciderOf N) in
-        let there = no-bytes last (N .ops) none in
+        let there = no-bytes cut last (N .ops) (N .holds) none in
         let tag = past8 (headBytes H) ops place 0 (omega (arith, head-length H)) ∙ ap (λ (l : List ℕ). num8 l 0) there in
         none-order (deciderOf N) (omega (arith, bytes-length, ap (λ (l : List ℕ). length l) there)) tag
-        ∙ sym (then-refuses _ (refuses _ ORDER place 0 (eq-eqb (length (N .ops)) 0 none)))
+        ∙ sym (then-refuses _ (refuses _ ORDER place 0 (eq-eqb (length (N .ops) + length (N .holds)) 0 none)))
 
     -- who decides is judged alike behind the operations
-    behind-same : (os : List Op) → opsOfNumbers H (N .ops) 32 place ≡ accepted os
+    behind-same : (os : List Op) → opsOfNumbers H (N .ops) (N .holds) 32 place ≡ accepted os
         → judgeBehind bytes (withOps H os) ≡ judgeDecider (deciderOf N) (withOps H os)
     unfolding numbersBytes
     behind-same os come =
         let who = deciderOf N in
         let T = withOps H os in
-        let (front, long, same) = last-behind (deciderBytes who) (N .ops) (length os) (numbers-passing H (N .ops) 32 place os come .1) in
+        let (front, long, same) = front-of H cut (deciderBytes who) (N .ops) (N .holds) 32 place os come in
         let pre = headBytes H ++ front in
         let there : bytes ≡ pre ++ deciderBytes who = ap (λ (l : List ℕ). headBytes H ++ l) same ∙ sym (append-assoc (headBytes H) front (deciderBytes who)) in
         let at : opsEnd T ≡ length pre = omega (arith, length-append (headBytes H) front, head-length H) in
@@ -338,19 +472,19 @@ module _ (N : Numbers) (fits : NumbersFit N) where
         ∙ ap (λ (x : Decider). ranged (deciderWrong (nops T) who) (opsEnd T) then judgeWhole (withDecider T x)) (decider-back pre (opsEnd T) (nops T) at who)
         ∙ sym (judgeDecider-row who T)
 
-    some-same : 0 < length (N .ops) → as-bytes H ≡ as-numbers
+    some-same : 0 < length (N .ops) + length (N .holds) → as-bytes H ≡ as-numbers
     unfolding needed numbersBytes opsFrom
     some-same some =
         let head : place ≡ length (headBytes H) = omega (arith, head-length H) in
-        then-accepts _ (passes _ ORDER place 0 (lt-leb (length bytes) place (omega (arith, bytes-length, some-bytes (deciderBytes (deciderOf N)) (N .ops) some))))
-        ∙ ap (λ v. onwards v (λ os. judgeBehind bytes (withOps H os))) (ops-written H (deciderOf N) (N .ops) (headBytes H) 32 place head (omega arith) (fits .each))
-        ∙ onwards-same (opsOfNumbers H (N .ops) 32 place) (λ os. judgeBehind bytes (withOps H os)) (λ os. judgeDecider (deciderOf N) (withOps H os)) behind-same
-        ∙ sym (then-accepts _ (passes _ ORDER place 0 (ne-eqb (length (N .ops)) 0 (λ e. omega arith))))
+        then-accepts _ (passes _ ORDER place 0 (lt-leb (length bytes) place (omega (arith, bytes-length, some-bytes cut (deciderBytes (deciderOf N)) (N .ops) (N .holds) some))))
+        ∙ ap (λ v. onwards v (λ os. judgeBehind bytes (withOps H os))) (ops-written H cut (deciderOf N) (N .ops) (N .holds) (headBytes H) 32 place head (omega arith) (fits .each))
+        ∙ onwards-same (opsOfNumbers H (N .ops) (N .holds) 32 place) (λ os. judgeBehind bytes (withOps H os)) (λ os. judgeDecider (deciderOf N) (withOps H os)) behind-same
+        ∙ sym (then-accepts _ (passes _ ORDER place 0 (ne-eqb (length (N .ops) + length (N .holds)) 0 (λ e. omega arith))))
 
     tail-same : as-bytes (headOf bytes) ≡ as-numbers
-    tail-same = ap as-bytes head-back ∙ go (ℕ-discrete (length (N .ops)) 0)
+    tail-same = ap as-bytes head-back ∙ go (ℕ-discrete (length (N .ops) + length (N .holds)) 0)
       where
-        go : Dec (length (N .ops) ≡ 0) → as-bytes H ≡ as-numbers
+        go : Dec (length (N .ops) + length (N .holds) ≡ 0) → as-bytes H ≡ as-numbers
         go (yes e) = none-same e
         go (no n) = some-same (omega (arith, n))
 
@@ -389,7 +523,7 @@ module _ (N : Numbers) (fits : NumbersFit N) where
       (λ _ _. third-field tail-same (ℕ-discrete (length (N .follow)) (N .modes))))
 
   -- "judged as if first written in this layout and then read"
-  pub as-written : judgeNumbers N ≡ judge (numbersBytes N)
+  pub as-written : judgeNumbers N ≡ judge (numbersBytes cut N)
   as-written = numbers-flat N ∙ sym rows-same ∙ sym (judge-flat bytes)
 
 -- ---- numbers in their ranges fit their fields
@@ -413,7 +547,7 @@ sets-fit N ok sets =
       follow = λ a h. below 32 (N .modes) (getD (N .follow) a 0) few (each (suc a) (omega arith) .small);
     }
 
-op-fits : (H : Table) → lenWrong (H .len) ≡ 0 → countsWrong (H .boards) (H .cells) (H .modes) ≡ 0 → (o : Op) → opWrong H o ≡ 0 → OpFits o
+op-fits : (H : Table) → lenWrong (H .len) ≡ 0 → countsWrong (H .boards) (H .cells) (H .modes) ≡ 0 → (o : Op) → stepWrong H o ≡ 0 → OpFits o
 op-fits H len counts o h =
     let (_, short) = says-len (H .len) .0 len in
     let (_, (boards, (cells, (_, modes)))) = says-counts (H .boards) (H .cells) (H .modes) .0 counts in
@@ -421,11 +555,16 @@ op-fits H len counts o h =
     record {
       start = omega (arith, x .fits);
       dur = omega (arith, x .fits);
+      hold = omega (arith, x .fits);
       boards = below 16 (H .boards) (o .boards) boards (x .boards .small);
       reads = below 32 (H .cells) (o .reads) cells (x .reads);
       writes = below 32 (H .cells) (o .writes) cells (x .writes);
       modes = below 32 (H .modes) (o .modes) modes (x .modes .small);
     }
+
+-- one that has nothing behind its header
+cut-bare : Cut
+cut-bare = record { form = false; there = []; few = omega arith }
 
 -- ---- what is refused, and where
 
@@ -465,8 +604,8 @@ module _ (N : Numbers) where
       ∙ then-refuses _ (refuses _ SIZE 11 0 (rw (ne-eqb (length (N .follow)) (N .modes) wrong))))
 
   -- as of the bytes with that many words
-  pub words-written : NumbersFit N → LenGood → CountsGood → (length (N .follow) ≡ N .modes → ⊥) → judge (numbersBytes N) ≡ refused SIZE 11 0
-  words-written fits len counts wrong = sym (as-written N fits) ∙ words-size len counts wrong
+  pub words-written : NumbersFit N → LenGood → CountsGood → (length (N .follow) ≡ N .modes → ⊥) → (cut : Cut) → judge (numbersBytes cut N) ≡ refused SIZE 11 0
+  words-written fits len counts wrong cut = sym (as-written N fits cut) ∙ words-size len counts wrong
 
   -- the first modes, or a follower word
   pub sets-too-large : LenGood → CountsGood → length (N .follow) ≡ N .modes → (SetsFit N → ⊥) → judgeNumbers N ≡ refused RANGE 11 (11 + setsWrong (N .modes) (N .first ∷ N .follow))
@@ -479,94 +618,126 @@ module _ (N : Numbers) where
       ∙ then-refuses _ (ranged-no _ 11 (λ e. large (sets-fit N counts e))))
 
   -- what stands before the operations passes
-  head-passes : HeadOk (headOfNumbers N) → 0 < length (N .ops) → numbersTest N ≡ accepted tt
+  head-passes : HeadOk (headOfNumbers N) → 0 < length (N .ops) + length (N .holds) → numbersTest N ≡ accepted tt
   head-passes head some =
       numbers-row N
       ∙ then-accepts _ (ranged-yes _ 0 (head .len))
       ∙ then-accepts _ (ranged-yes _ 5 (head .counts))
       ∙ then-accepts _ (passes _ SIZE 11 0 (rw (eq-eqb (length (N .follow)) (N .modes) (head .words))))
       ∙ then-accepts _ (ranged-yes _ 11 (head .sets))
-      ∙ passes _ ORDER _ 0 (ne-eqb (length (N .ops)) 0 (λ e. omega arith))
+      ∙ passes _ ORDER _ 0 (ne-eqb (length (N .ops) + length (N .holds)) 0 (λ e. omega arith))
+
+-- the numbers of operation k, in the form that its mark says, are in their ranges
+abbrev AmongFine : Table → List ℕ → List ℕ → ℕ → Type 0
+AmongFine H ns hs k = opWrong H (markAmong hs k) (opAmong ns hs k) ≡ 0
+
+-- so are those behind the first
+fine-behind : (H : Table) (ns hs : List ℕ) (j : ℕ) → AmongFine H ns hs (suc j) → AmongFine H (drop 6 ns) (drop 2 hs) j
+fine-behind H ns hs j e =
+    ap (λ (b : Bool). opWrong H b (opAmong (drop 6 ns) (drop 2 hs) j)) (after-mark hs j) ∙ ap (opWrong H (markAmong hs (suc j))) (after-op ns hs j) ∙ e
 
 -- the first k operations in their ranges, a refusal of what comes behind them is the verdict
-ops-behind : (H : Table) (k : ℕ) (ns : List ℕ) (left all at : ℕ) {n a b : ℕ} → all ≡ k + left → 6 * k ≤ length ns
-    → ((j : ℕ) → j < k → opWrong H (opAmong ns j) ≡ 0)
-    → opsOfNumbers H (drop (6 * k) ns) left (at + 21 * k) ≡ refused n a b → opsOfNumbers H ns all at ≡ refused n a b
-ops-behind H zero ns left all at count long good e =
+ops-behind : (H : Table) (k : ℕ) (ns hs : List ℕ) (left all at : ℕ) {n a b : ℕ} → all ≡ k + left → 6 * k ≤ length ns → 2 * k ≤ length hs
+    → ((j : ℕ) → j < k → AmongFine H ns hs j)
+    → opsOfNumbers H (drop (6 * k) ns) (drop (2 * k) hs) left (placeAmong hs at k) ≡ refused n a b → opsOfNumbers H ns hs all at ≡ refused n a b
+unfolding placeAmong
+ops-behind H zero ns hs left all at count six two good e =
     let same : all ≡ left = omega arith in
-    let here : at ≡ at + 21 * 0 = omega arith in
-    ap (λ (m : ℕ). opsOfNumbers H ns m at) same ∙ ap (opsOfNumbers H ns left) here ∙ e
-ops-behind H (suc k) ns left zero at count long good e = absurd (omega arith)
-ops-behind H (suc k) ns left (suc all) at {n} {a} {b} count long good e =
-    let place : 6 + 6 * k ≡ 6 * suc k = omega arith in
-    let date : at + 21 * suc k ≡ at + 21 + 21 * k = omega arith in
-    let behind : (j : ℕ) → drop (6 * j) (drop 6 ns) ≡ drop (6 + 6 * j) ns = λ j. drop-drop (6 * j) 6 ns in
-    let rest : opsOfNumbers H (drop (6 * k) (drop 6 ns)) left (at + 21 + 21 * k) ≡ refused n a b =
-    ap (λ (l : List ℕ). opsOfNumbers H l left (at + 21 + 21 * k)) (behind k ∙ ap (λ (i : ℕ). drop i ns) place)
-    ∙ ap (opsOfNumbers H (drop (6 * suc k) ns) left) (sym date)
+    ap (λ (m : ℕ). opsOfNumbers H ns hs m at) same ∙ e
+ops-behind H (suc k) ns hs left zero at count six two good e = absurd (omega arith)
+ops-behind H (suc k) ns hs left (suc all) at {n} {a} {b} count six two good e =
+    let there = placeAmong (drop 2 hs) (at + 3 + opSize (markedOf hs)) k in
+    let sixth : 6 + 6 * k ≡ 6 * suc k = omega arith in
+    let second : 2 + 2 * k ≡ 2 * suc k = omega arith in
+    let sixes : drop (6 * k) (drop 6 ns) ≡ drop (6 * suc k) ns = drop-drop (6 * k) 6 ns ∙ ap (λ (i : ℕ). drop i ns) sixth in
+    let twos : drop (2 * k) (drop 2 hs) ≡ drop (2 * suc k) hs = drop-drop (2 * k) 2 hs ∙ ap (λ (i : ℕ). drop i hs) second in
+    let rest : opsOfNumbers H (drop (6 * k) (drop 6 ns)) (drop (2 * k) (drop 2 hs)) left there ≡ refused n a b =
+    ap (λ (l : List ℕ). opsOfNumbers H l (drop (2 * k) (drop 2 hs)) left there) sixes
+    ∙ ap (λ (l : List ℕ). opsOfNumbers H (drop (6 * suc k) ns) l left there) twos
     ∙ e
     in
-    whole-numbers H ns at all (omega arith)
+    whole-numbers H ns hs at all (omega arith) (omega arith)
     ∙ then-accepts _ (ranged-yes _ at (good 0 (omega arith)))
     ∙ more-refuses _
-    (ops-behind H k (drop 6 ns) left all (at + 21) (omega arith) (omega (arith, length-drop 6 ns))
-    (λ j h. ap (opWrong H) (after-op ns j) ∙ good (suc j) (omega arith))
+    (ops-behind H k (drop 6 ns) (drop 2 hs) left all _ (omega arith) (omega (arith, length-drop 6 ns)) (omega (arith, length-drop 2 hs))
+    (λ j h. fine-behind H ns hs j (good (suc j) (omega arith)))
     rest)
 
--- what stands before the operations in its ranges, and the first k operations in theirs, k below 32
-module _ (N : Numbers) (head : HeadOk (headOfNumbers N)) (k : ℕ) (few : k < 32)
-    (good : (j : ℕ) → j < k → opWrong (headOfNumbers N) (opAmong (N .ops) j) ≡ 0) where
-  behind-refused : {n a b : ℕ} → 6 * k < length (N .ops)
-      → ((left : ℕ) → opsOfNumbers (headOfNumbers N) (drop (6 * k) (N .ops)) (suc left) (opsPlace (N .modes) + 21 * k) ≡ refused n a b)
+-- what stands before the operations in its ranges, and the first k operations in theirs, k below 32; the next would be written at its place
+module _ (N : Numbers) (head : HeadOk (headOfNumbers N)) (k : ℕ) (few : k < 32) (sixes : 6 * k ≤ length (N .ops)) (twos : 2 * k ≤ length (N .holds))
+    (good : (j : ℕ) → j < k → AmongFine (headOfNumbers N) (N .ops) (N .holds) j) where
+  abbrev next : ℕ
+  next = placeAmong (N .holds) (opsPlace (N .modes)) k
+
+  behind-refused : {n a b : ℕ} → 0 < length (N .ops) + length (N .holds)
+      → ((left : ℕ) → opsOfNumbers (headOfNumbers N) (drop (6 * k) (N .ops)) (drop (2 * k) (N .holds)) (suc left) next ≡ refused n a b)
       → judgeNumbers N ≡ refused n a b
   behind-refused some e =
       judgeNumbers-row N
-      ∙ then-accepts _ (head-passes N head (omega arith))
-      ∙ onwards-refuses _ (ops-behind (headOfNumbers N) k (N .ops) (suc (31 - k)) 32 _ (omega arith) (omega arith) good (e (31 - k)))
+      ∙ then-accepts _ (head-passes N head some)
+      ∙ onwards-refuses _ (ops-behind (headOfNumbers N) k (N .ops) (N .holds) (suc (31 - k)) 32 _ (omega arith) sixes twos good (e (31 - k)))
 
-  -- "an operation with numbers missing SHORT"
-  pub numbers-missing : 6 * k < length (N .ops) → length (N .ops) < 6 * k + 6 → judgeNumbers N ≡ refused SHORT (opsPlace (N .modes) + 21 * k) 0
+  -- "an operation with numbers missing SHORT": one of the six, or its mark or its hold, or all of either
+  pub numbers-missing : 6 * k + 2 * k < length (N .ops) + length (N .holds) → (length (N .ops) < 6 * k + 6) ⊎ (length (N .holds) < 2 * k + 2)
+      → judgeNumbers N ≡ refused SHORT next 0
   numbers-missing some short =
-      let left-over = length-drop (6 * k) (N .ops) in
-      behind-refused some (λ left. short-numbers (headOfNumbers N) (drop (6 * k) (N .ops)) _ left (omega arith) (omega arith))
+      let six = length-drop (6 * k) (N .ops) in
+      let two = length-drop (2 * k) (N .holds) in
+      behind-refused (omega arith)
+      (λ left. short-numbers (headOfNumbers N) (drop (6 * k) (N .ops)) (drop (2 * k) (N .holds)) _ left (omega arith) (less six two short))
+    where
+      less : length (drop (6 * k) (N .ops)) ≡ length (N .ops) - 6 * k → length (drop (2 * k) (N .holds)) ≡ length (N .holds) - 2 * k
+          → (length (N .ops) < 6 * k + 6) ⊎ (length (N .holds) < 2 * k + 2)
+          → (length (drop (6 * k) (N .ops)) < 6) ⊎ (length (drop (2 * k) (N .holds)) < 2)
+      less six two (inl h) = inl (omega arith)
+      less six two (inr h) = inr (omega arith)
 
   -- a number of operation k that is too large for its field
-  pub op-too-large : 6 * k + 6 ≤ length (N .ops) → (OpFits (opAmong (N .ops) k) → ⊥)
+  pub op-too-large : 6 * k + 6 ≤ length (N .ops) → 2 * k + 2 ≤ length (N .holds) → (OpFits (opAmong (N .ops) (N .holds) k) → ⊥)
       → judgeNumbers N
-      ≡ refused RANGE (opsPlace (N .modes) + 21 * k) (opsPlace (N .modes) + 21 * k + opWrong (headOfNumbers N) (opAmong (N .ops) k))
-  op-too-large all large =
-      let left-over = length-drop (6 * k) (N .ops) in
+      ≡ refused RANGE next (next + opWrong (headOfNumbers N) (markAmong (N .holds) k) (opAmong (N .ops) (N .holds) k))
+  op-too-large six two large =
+      let ns = drop (6 * k) (N .ops) in
+      let hs = drop (2 * k) (N .holds) in
+      let H = headOfNumbers N in
+      let sixth = length-drop (6 * k) (N .ops) in
+      let second = length-drop (2 * k) (N .holds) in
       behind-refused (omega arith)
       (λ left.
-      whole-numbers (headOfNumbers N) (drop (6 * k) (N .ops)) _ left (omega arith)
+      whole-numbers H ns hs _ left (omega arith) (omega arith)
       ∙ then-refuses _
-      (ranged-no _ _ (λ e. large (op-fits (headOfNumbers N) (head .len) (head .counts) (opAmong (N .ops) k) e))))
+      (ranged-no _ _ (λ e. large (op-fits H (head .len) (head .counts) (opOfNumbers ns hs) (own-wrong H (markedOf hs) (opOfNumbers ns hs) (plain-handed ns hs) e)))))
 
 -- whole operations in their ranges are accepted
-ops-good : (H : Table) (k : ℕ) (ns : List ℕ) (left at : ℕ) → length ns ≡ 6 * k → k ≤ left → ((j : ℕ) → j < k → opWrong H (opAmong ns j) ≡ 0)
-    → (os : List Op) × (opsOfNumbers H ns left at ≡ accepted os) × (length os ≡ k)
-ops-good H zero ns zero at long few good = ([], numbers-end H ns at ∙ rw (eq-eqb (length ns) 0 (omega arith)), refl)
-ops-good H zero ns (suc left) at long few good = ([], numbers-next H ns left at ∙ rw (eq-eqb (length ns) 0 (omega arith)), refl)
-ops-good H (suc k) ns zero at long few good = absurd (omega arith)
-ops-good H (suc k) ns (suc left) at long few good =
-    let (os, come, count) = ops-good H k (drop 6 ns) left (at + 21) (omega (arith, length-drop 6 ns)) (omega arith)
-    (λ j h. ap (opWrong H) (after-op ns j) ∙ good (suc j) (omega arith))
-    in (
-      opOfNumbers ns ∷ os,
-      whole-numbers H ns at left (omega arith) ∙ then-accepts _ (ranged-yes _ at (good 0 (omega arith))) ∙ more-accepts (opOfNumbers ns) come,
+ops-good : (H : Table) (k : ℕ) (ns hs : List ℕ) (left at : ℕ) → length ns ≡ 6 * k → length hs ≡ 2 * k → k ≤ left
+    → ((j : ℕ) → j < k → AmongFine H ns hs j)
+    → (os : List Op) × (opsOfNumbers H ns hs left at ≡ accepted os) × (length os ≡ k) × (at + opsSize os ≡ placeAmong hs at k)
+unfolding placeAmong
+ops-good H zero ns hs zero at six two few good = ([], numbers-end H ns hs at ∙ rw (eq-eqb (length ns + length hs) 0 (omega arith)), refl, omega (arith, size-none))
+ops-good H zero ns hs (suc left) at six two few good = ([], numbers-next H ns hs left at ∙ rw (eq-eqb (length ns + length hs) 0 (omega arith)), refl, omega (arith, size-none))
+ops-good H (suc k) ns hs zero at six two few good = absurd (omega arith)
+ops-good H (suc k) ns hs (suc left) at six two few good =
+    let o = opOfNumbers ns hs in
+    let held = markedOf hs in
+    let (os, come, count, place) = ops-good H k (drop 6 ns) (drop 2 hs) left (at + 3 + opSize held) (omega (arith, length-drop 6 ns)) (omega (arith, length-drop 2 hs)) (omega arith)
+    (λ j h. fine-behind H ns hs j (good (suc j) (omega arith)))
+    in
+    let form : held ≡ settles o = own-form H held o (plain-handed ns hs) (good 0 (omega arith)) in (
+      o ∷ os,
+      whole-numbers H ns hs at left (omega arith) (omega arith) ∙ then-accepts _ (ranged-yes _ at (good 0 (omega arith))) ∙ more-accepts o come,
       ap suc count,
+      omega (arith, place, size-more o os, ap opSize form),
     )
 
 -- a decider that is marked and is none of the k operations, too large for its byte or not
-pub decider-too-large : (N : Numbers) (k : ℕ) → HeadOk (headOfNumbers N) → length (N .ops) ≡ 6 * k → 1 ≤ k → k ≤ 32
-    → ((j : ℕ) → j < k → opWrong (headOfNumbers N) (opAmong (N .ops) j) ≡ 0) → (N .mark ≡ 0 → ⊥) → k ≤ N .decider
-    → judgeNumbers N ≡ refused RANGE (opsPlace (N .modes) + 21 * k) (opsPlace (N .modes) + 21 * k + 3)
-decider-too-large N k head long some few good set large =
+pub decider-too-large : (N : Numbers) (k : ℕ) → HeadOk (headOfNumbers N) → length (N .ops) ≡ 6 * k → length (N .holds) ≡ 2 * k → 1 ≤ k → k ≤ 32
+    → ((j : ℕ) → j < k → AmongFine (headOfNumbers N) (N .ops) (N .holds) j) → (N .mark ≡ 0 → ⊥) → k ≤ N .decider
+    → judgeNumbers N ≡ refused RANGE (placeAmong (N .holds) (opsPlace (N .modes)) k) (placeAmong (N .holds) (opsPlace (N .modes)) k + 3)
+decider-too-large N k head six two some few good set large =
     let H = headOfNumbers N in
-    let (os, come, count) = ops-good H k (N .ops) 32 (opsPlace (N .modes)) long few good in
+    let (os, come, count, place) = ops-good H k (N .ops) (N .holds) 32 (opsPlace (N .modes)) six two few good in
     let who : deciderOf N ≡ decides (N .decider) = rw (ne-eqb (N .mark) 0 set) in
     let wrong = decider-high (length os) (N .decider) (omega arith) in
-    let place : opsEnd (withOps H os) ≡ opsPlace (N .modes) + 21 * k = omega arith in
     judgeNumbers-row N
     ∙ then-accepts _ (head-passes N head (omega arith))
     ∙ onwards-accepts _ come
@@ -578,28 +749,35 @@ decider-too-large N k head long some few good set large =
 -- ---- an accepted table
 
 -- its operations, as its numbers have them
-table-op : (os : List Op) (k : ℕ) → k < length os → opAmong (joined opNumbers os) k ≡ getD os k noOp
+table-op : (os : List Op) (k : ℕ) → k < length os → opAmong (joined opNumbers os) (joined holdNumbers os) k ≡ getD os k noOp
 unfolding joined
 table-op [] k h = absurd (omega arith)
-table-op (o ∷ os) zero h = refl
-table-op (o ∷ os) (suc k) h = sym (after-op (joined opNumbers (o ∷ os)) k) ∙ table-op os k (omega arith)
+table-op (o ∷ os) zero h = op-numbers o (joined opNumbers os) (joined holdNumbers os)
+table-op (o ∷ os) (suc k) h = sym (after-op (joined opNumbers (o ∷ os)) (joined holdNumbers (o ∷ os)) k) ∙ table-op os k (omega arith)
 
 numbers-length : (os : List Op) → length (joined opNumbers os) ≡ 6 * length os
 numbers-length = joined-length opNumbers 6 (λ o. refl)
 
+holds-length : (os : List Op) → length (joined holdNumbers os) ≡ 2 * length os
+holds-length = joined-length holdNumbers 2 (λ o. refl)
+
 -- they are judged by what they are
-ops-numbers : (H : Table) (os : List Op) (left at : ℕ) → opsOfNumbers H (joined opNumbers os) left at ≡ fieldsOf 18 (opWrong H) os left at
-unfolding opsOfNumbers joined fieldsOf
-ops-numbers H [] zero at = refl
-ops-numbers H [] (suc left) at = refl
-ops-numbers H (o ∷ os) zero at = simp eqb·suc-zero
+ops-numbers : (H : Table) (os : List Op) (left at : ℕ)
+    → opsOfNumbers H (joined opNumbers os) (joined holdNumbers os) left at ≡ fieldsOf (λ o. opSize (settles o)) (stepWrong H) os left at
+unfolding joined fieldsOf
+ops-numbers H [] zero at = numbers-end H [] [] at
+ops-numbers H [] (suc left) at = numbers-next H [] [] left at
+ops-numbers H (o ∷ os) zero at = many-numbers H (joined opNumbers (o ∷ os)) (joined holdNumbers (o ∷ os)) at (omega arith)
 ops-numbers H (o ∷ os) (suc left) at =
-    let next : at + 21 ≡ at + 3 + 18 = omega arith in
-    let rest = ops-numbers H os left (at + 21) ∙ ap (fieldsOf 18 (opWrong H) os left) next in
-    simp (eqb·suc-zero, le-ltb (length (joined opNumbers (o ∷ os))) 6 (omega arith)) (ap (λ v. ranged (opWrong H o) at then more o v) rest)
+    let ns = joined opNumbers os in
+    let hs = joined holdNumbers os in
+    whole-numbers H (opNumbers o ++ ns) (holdNumbers o ++ hs) at left (omega arith) (omega arith)
+    ∙ ap (λ (u : Op). ranged (opWrong H (markedOf (holdNumbers o)) u) at then more u (opsOfNumbers H ns hs left (at + 3 + opSize (markedOf (holdNumbers o))))) (op-numbers o ns hs)
+    ∙ ap (λ (b : Bool). ranged (opWrong H b o) at then more o (opsOfNumbers H ns hs left (at + 3 + opSize b))) (mark-back o)
+    ∙ ap (λ v. ranged (stepWrong H o) at then more o v) (ops-numbers H os left (at + 3 + opSize (settles o)))
 
 -- a table in its ranges is judged as a whole, handed over and written
-module _ (T : Table) (head : HeadOk T) (some : 1 ≤ nops T) (few : nops T ≤ 32) (good : (i : ℕ) → i < nops T → opWrong T (op T i) ≡ 0)
+module _ (T : Table) (head : HeadOk T) (some : 1 ≤ nops T) (few : nops T ≤ 32) (good : (i : ℕ) → i < nops T → stepWrong T (op T i) ≡ 0)
     (decider : deciderWrong (nops T) (T .decider) ≡ 0) where
   ranges-fit : NumbersFit (numbersOf T)
   unfolding numbersOf
@@ -612,7 +790,7 @@ module _ (T : Table) (head : HeadOk T) (some : 1 ≤ nops T) (few : nops T ≤ 3
         sets = sets-fit (numbersOf T) (head .counts) (head .sets);
         size = omega (arith, head .words);
         each =
-            λ k h.
+            λ k h _.
             let inside : k < nops T = omega (arith, numbers-length (T .ops)) in
             subst OpFits (sym (table-op (T .ops) k inside)) (op-fits T (head .len) (head .counts) (op T k) (good k inside));
         decider = λ d e. omega (arith, few, says-decider (nops T) (T .decider) .0 decider d (sym (marked-back T) ∙ e));
@@ -626,19 +804,20 @@ module _ (T : Table) (head : HeadOk T) (some : 1 ≤ nops T) (few : nops T ≤ 3
       ap (λ (x : Decider). judgeDecider x U) e ∙ judgeDecider-row (T .decider) U ∙ then-accepts _ (ranged-yes _ (opsEnd U) decider)
 
   ranges-numbers : judgeNumbers (numbersOf T) ≡ judgeWhole T
-  unfolding numbersOf opWrong
+  unfolding numbersOf
   ranges-numbers =
       let H = headOfNumbers (numbersOf T) in
       judgeNumbers-row (numbersOf T)
       ∙ then-accepts _
       (head-passes (numbersOf T) (record { len = head .len; counts = head .counts; words = head .words; sets = head .sets })
-      (omega (arith, numbers-length (T .ops))))
+      (omega (arith, numbers-length (T .ops), holds-length (T .ops))))
       ∙ onwards-accepts (λ os. judgeDecider (deciderOf (numbersOf T)) (withOps H os))
-      (ops-numbers H (T .ops) 32 (opsPlace (T .modes)) ∙ fields-accepted noOp 18 (opWrong T) (T .ops) 32 (opsPlace (T .modes)) few good)
+      (ops-numbers H (T .ops) 32 (opsPlace (T .modes))
+      ∙ fields-accepted noOp _ (stepWrong H) (T .ops) 32 (opsPlace (T .modes)) few (λ i h. head-wrong T [] nobody _ _ ∙ good i h))
       ∙ ranges-decider (deciderOf (numbersOf T)) (marked-back T)
 
   pub ranges-written : judge (tableBytes T) ≡ judgeWhole T
-  ranges-written = ap judge (sym (table-written T)) ∙ sym (as-written (numbersOf T) ranges-fit) ∙ ranges-numbers
+  ranges-written = ap judge (sym (table-written cut-bare T)) ∙ sym (as-written (numbersOf T) ranges-fit cut-bare) ∙ ranges-numbers
 
 module _ (T : Table) (ok : Accepted T) where
   accepted-head : HeadOk T
@@ -654,7 +833,7 @@ module _ (T : Table) (ok : Accepted T) where
       set zero h = ok .firsts
       set (suc a) h = ok .follows a (omega (arith, ok .words))
 
-  accepted-ops : (i : ℕ) → i < nops T → opWrong T (op T i) ≡ 0
+  accepted-ops : (i : ℕ) → i < nops T → stepWrong T (op T i) ≡ 0
   accepted-ops i h = op-passes T (op T i) (ok .len-high) (ok .each i h)
 
   accepted-decider : deciderWrong (nops T) (T .decider) ≡ 0

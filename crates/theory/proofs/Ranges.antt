@@ -3,7 +3,7 @@
 -- Assumes nothing.
 use Prim.Native.Nat.{ℕ, zero, suc, _+_, _*_, _<_, _≤_}
 use mathlib.Core.Path.{_≡_, refl, sym, ap, _∙_}
-use mathlib.Core.Bool.{true, false, not}
+use mathlib.Core.Bool.{Bool, true, false, not}
 use mathlib.Core.List.{List, [], _∷_}
 use mathlib.Core.Logic.{_↔_}
 use native.Mathlib.Numerals.{add-one}
@@ -12,9 +12,10 @@ use lib.Dec.{eqb}
 use lib.ListN.{length, getD, drop, drop-of-length-le}
 use lib.Seq.{drop-cons}
 use borrow.Author.Tests.{lt-leb, le-leb, lt-ltb, le-ltb, eq-eqb, ne-eqb, eqb-true, not-false}
-use Rattle.rules.specs.Table.{Op, Decider, nobody, decides, Table}
+use Rattle.rules.specs.Table.{Op, Decider, nobody, decides, Table, heldTo}
 use Rattle.rules.specs.Rows.{Ticks, Row, unfoldAt}
 use Rattle.rules.specs.Verdicts.{accepted, refused, RANGE}
+use Rattle.rules.specs.Bytes.{opSize}
 use Rattle.rules.specs.Judge.{Number, number, wrongFrom, firstWrong, ranged, lenRanges, lenWrong, countRanges, countsWrong, setOk, setRanges, setsWrong, opRanges, opWrong, deciderRanges, deciderWrong, rowRanges, rowWrong}
 use Rattle.rules.specs.Bench.{All}
 use Rattle.theory.specs.Blamed.{bytesBefore, among, FirstFrom}
@@ -127,9 +128,10 @@ pub sets-within : (n : ℕ) (ss : List ℕ) {w : ℕ} → w ≡ setsWrong n ss �
 unfolding setsWrong firstWrong
 sets-within n ss e = omega (arith, e, wrong-within 3 (setRanges n ss), sets-bytes n ss)
 
-pub op-within : (T : Table) (o : Op) {w : ℕ} → w ≡ opWrong T o → w ≤ 21
+pub op-within : (T : Table) (held : Bool) (o : Op) {w : ℕ} → w ≡ opWrong T held o → w ≤ 3 + opSize held
 unfolding opWrong bytesBefore
-op-within T o e = omega (arith, e, wrong-within 3 (opRanges T o))
+op-within T false o e = omega (arith, e, wrong-within 3 (opRanges T false o))
+op-within T true o e = omega (arith, e, wrong-within 3 (opRanges T true o))
 
 pub decider-within : (n : ℕ) (who : Decider) {w : ℕ} → w ≡ deciderWrong n who → w ≤ 4
 unfolding deciderWrong bytesBefore
@@ -190,22 +192,40 @@ pub decider-high : (n d : ℕ) → n ≤ d → deciderWrong n (decides d) ≡ 3
 unfolding deciderWrong
 decider-high n d h = rw (le-ltb d n h)
 
-module _ (T : Table) (o : Op) where
+module _ (T : Table) (held : Bool) (o : Op) where
   -- a start too large for its field
-  pub op-start : 65536 ≤ o .start → opWrong T o ≡ 3
+  pub op-start : 65536 ≤ o .start → opWrong T held o ≡ 3
   unfolding opWrong
   op-start h = rw (le-ltb (o .start) 65536 h)
 
   module _ (fits : o .start < 65536) where
     -- "a duration d of at least 1"
-    pub op-no-time : o .dur < 1 → opWrong T o ≡ 5
+    pub op-no-time : o .dur < 1 → opWrong T held o ≡ 5
     unfolding opWrong
     op-no-time h = rw (lt-ltb (o .start) 65536 fits, lt-leb 1 (o .dur) h)
 
-    -- "an operation that ends after p blames its duration"
-    pub op-late : 1 ≤ o .dur → T .len < o .start + o .dur → opWrong T o ≡ 5
+    -- "an operation that ends after p blames its duration", whatever its hold
+    pub op-late : 1 ≤ o .dur → T .len < o .start + o .dur → opWrong T held o ≡ 5
     unfolding opWrong
     op-late h l = rw (lt-ltb (o .start) 65536 fits, le-leb 1 (o .dur) h, lt-leb (o .start + o .dur) (T .len) l)
+
+module _ (T : Table) (o : Op) (fits : o .start < 65536) (lasts : 1 ≤ o .dur) (ends : o .start + o .dur ≤ T .len) where
+  -- document 02, No. 9: "a 20-byte field with hold 0 is RANGE and blames the hold"
+  pub op-no-hold : o .hold < 1 → opWrong T true o ≡ 7
+  unfolding opWrong
+  op-no-hold h = rw (lt-ltb (o .start) 65536 fits, le-leb 1 (o .dur) lasts, le-leb (o .start + o .dur) (T .len) ends, lt-leb 1 (o .hold) h)
+
+  -- "so does a hold that alone runs past p"
+  pub op-held-past : 1 ≤ o .hold → T .len < heldTo o → opWrong T true o ≡ 7
+  unfolding opWrong
+  op-held-past h l =
+      rw (
+        lt-ltb (o .start) 65536 fits,
+        le-leb 1 (o .dur) lasts,
+        le-leb (o .start + o .dur) (T .len) ends,
+        le-leb 1 (o .hold) h,
+        lt-leb (heldTo o) (T .len) l,
+      )
 
 module _ (q : Ticks) (r : Row) where
   -- a folded start that is not below the period

@@ -18,7 +18,7 @@ use Rattle.rules.specs.Bench.{All}
 use Rattle.theory.proofs.Says.{says-leb, says-ltb}
 use Rattle.theory.proofs.Verdicts.{passes, then-accepts, then-first, then-rest, onwards-accepts, onwards-first}
 use Rattle.theory.proofs.Ranges.{none-wrong, ranged-yes}
-use Rattle.theory.proofs.Judging.{field-passed, says-len, fields-values, fields-ended}
+use Rattle.theory.proofs.Judging.{field-passed, says-len, place-even, fields-values, fields-ended}
 use Rattle.theory.proofs.Bytes.{two-bytes, past16, reply-length, field-whole, fields-accepted, Repeated, fields-back}
 
 -- ---- fold and unfold
@@ -102,7 +102,7 @@ module _ (R : Reply) (d : Row) (low : 1 ≤ R .period .number) (high : R .period
   rows-back =
       fields-back row-repeated d (rowWrong (R .period)) (R .rows) (take 5 (replyBytes R)) 32 5 (omega arith)
       (λ i h. row-fits _ _ low high (each i h))
-      ∙ fields-accepted d 4 (rowWrong (R .period)) (R .rows) 32 5 few each
+      ∙ fields-accepted d (λ r. 4) (rowWrong (R .period)) (R .rows) 32 5 few each
 
   reply-back : judgeReply (replyBytes R) ≡ accepted R
   unfolding judgeReply
@@ -142,14 +142,15 @@ module _ (s : List ℕ) where
   unfolding rowsFrom
   rows-in rs come ranges long =
       let q = ticks (num16 s 3) in
-      let ended = fields-ended atEnd 18 4 (rowWrong q) rowAt s 32 5 rs come in
-      let place : (i : ℕ) → 5 + i * 7 ≡ 5 + 7 * i = λ i. omega arith in
-      let row : (d : Row) (i : ℕ) → i < length rs → getD rs i d ≡ rowAt s (5 + 7 * i) = λ d i h. fields-values atEnd 18 4 (rowWrong q) rowAt s d 32 5 rs come i h ∙ ap (rowAt s) (place i) in
+      let ended = fields-ended atEnd 18 (λ s at. 4) (λ s at. rowWrong q (rowAt s at)) rowAt s 32 5 rs come in
+      let end = place-even 4 s 5 (length rs) in
+      let row : (d : Row) (i : ℕ) → i < length rs → getD rs i d ≡ rowAt s (5 + 7 * i) =
+      λ d i h. fields-values atEnd 18 (λ s at. 4) (λ s at. rowWrong q (rowAt s at)) rowAt s d 32 5 rs come i h .0 ∙ ap (rowAt s) (place-even 4 s 5 i) in
       record {
         period = refl;
         low = ranges .0;
         high = ranges .1;
-        size = omega (arith, leb-true (length s) _ (ended .done), ended .inside long);
+        size = omega (arith, leb-true (length s) _ (ended .done), ended .inside long, end);
         row = row;
       }
 

@@ -1,4 +1,4 @@
--- What the program prints: for all words and every input there is just one text on each stream, and no byte of the input past 825 matters.
+-- What the program prints: for all words and every input there is just one text on each stream, and no byte of the input past 889 matters.
 -- Assumes nothing.
 use Prim.Native.Nat.{ℕ}
 use mathlib.Core.Path.{_≡_, refl, sym, ap, _∙_}
@@ -29,7 +29,7 @@ said-exists (marginAsked i j n q) s = (_, (_, refl, refl))
 said-exists unfoldAsked s = (_, refl)
 said-exists nothingAsked s = (askable, refl)
 
--- "no answer depends on bytes past 825", whatever is asked
+-- "no answer depends on bytes past 889", whatever is asked
 said-near : (q : Question) (s t b : List ℕ) → take farthest s ≡ take farthest t → IsSaid q s b → IsSaid q t b
 unfolding IsSaid
 said-near foldAsked s t b near x = text-near s t near b x

@@ -64,6 +64,11 @@ pub says-not : {P : Type 0} (a : Bool) → Says a P → Says (not a) (P → ⊥)
 says-not true s = (λ e p. false≢true e, λ n. absurd (n (s .0 refl)))
 says-not false s = (λ e p. false≢true (s .1 p), λ n. refl)
 
+-- neither of two tests
+pub or-false : (a b : Bool) → (a || b) ≡ false → (a ≡ false) × (b ≡ false)
+or-false true b e = absurd (true≢false e)
+or-false false b e = (refl, e)
+
 -- the test is false exactly where the statement does not hold
 pub says-false : {P : Type 0} (b : Bool) → Says b P → (b ≡ false) ↔ (P → ⊥)
 says-false true s = (λ e p. false≢true (sym e), λ n. absurd (n (s .0 refl)))

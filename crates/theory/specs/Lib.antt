@@ -4,7 +4,9 @@ pub mod Carry
 pub mod Tests
 pub mod Planners
 pub mod Pairs
+pub mod Holds
 pub mod Deciders
 pub mod DeciderBefore
 pub mod Numbers
 pub mod Blamed
+pub mod HoldBefore

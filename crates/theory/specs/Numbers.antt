@@ -1,16 +1,21 @@
 -- A table handed over as numbers: the bytes that are written for it, and when its numbers fit their fields.
 -- Assumes nothing.
-use Prim.Native.Nat.{ℕ, _+_, _*_, _^_, _<_, _≤_}
+use Prim.Native.Nat.{ℕ, zero, suc, _+_, _*_, _^_, _<_, _≤_}
 use mathlib.Core.Path.{_≡_}
+use mathlib.Core.Bool.{Bool, cond}
 use mathlib.Core.List.{List, [], _∷_, _++_}
 use lib.ListN.{length, getD, drop}
 use Rattle.rules.specs.Table.{Op, Decider, nobody, decides, Table}
-use Rattle.rules.specs.Bytes.{be16, be32, joined, opBytes, headBytes, deciderBytes}
-use Rattle.rules.specs.Judge.{Numbers, opOfNumbers, headOfNumbers, deciderOf}
+use Rattle.rules.specs.Bytes.{be16, be32, joined, opSize, opForm, settles, headBytes, deciderBytes}
+use Rattle.rules.specs.Judge.{Numbers, markedOf, opOfNumbers, headOfNumbers, deciderOf}
 
 -- "six for each operation, in layout order"
 abbrev pub opNumbers : Op → List ℕ
 opNumbers o = o .start ∷ o .dur ∷ o .boards ∷ o .reads ∷ o .writes ∷ o .modes ∷ []
+
+-- beside them the mark and the hold
+abbrev pub holdNumbers : Op → List ℕ
+holdNumbers o = cond (settles o) 1 0 ∷ o .hold ∷ []
 
 -- the mark and the number of who decides
 abbrev pub markOf : Decider → ℕ
@@ -33,32 +38,42 @@ numbersOf T =
       first = T .first;
       follow = T .follow;
       ops = joined opNumbers (T .ops);
+      holds = joined holdNumbers (T .ops);
       mark = markOf (T .decider);
       decider = numberOf (T .decider);
     }
 
 -- ---- "as if first written in this layout"
 
--- the field of an operation with numbers missing: its header, and the bytes of the numbers that are there
-abbrev cutBytes : List ℕ → List ℕ
-cutBytes there = 4 ∷ be16 18 ++ there
+-- the field of an operation with numbers missing: a header of either form, and fewer bytes behind it than it says, whichever of the numbers that are
+-- there they are
+pub record Cut : Type 0 where
+  pub form : Bool
+  pub there : List ℕ
+  pub few : length there < opSize form
 
--- six numbers are an operation's field; what is left over at the end is one with numbers missing, and with it the input ends. Behind whole
--- operations comes what is last.
-unfoldable pub opsBytes : List ℕ → List ℕ → List ℕ
-opsBytes last [] = last
-opsBytes last (t ∷ []) = cutBytes (be16 t)
-opsBytes last (t ∷ d ∷ []) = cutBytes (be16 t ++ be16 d)
-opsBytes last (t ∷ d ∷ b ∷ []) = cutBytes (be16 t ++ be16 d ++ be16 b)
-opsBytes last (t ∷ d ∷ b ∷ r ∷ []) = cutBytes (be16 t ++ be16 d ++ be16 b ++ be32 r)
-opsBytes last (t ∷ d ∷ b ∷ r ∷ w ∷ []) = cutBytes (be16 t ++ be16 d ++ be16 b ++ be32 r ++ be32 w)
-opsBytes last (t ∷ d ∷ b ∷ r ∷ w ∷ m ∷ ns) =
-    opBytes (record { start = t; dur = d; boards = b; reads = r; writes = w; modes = m }) ++ opsBytes last ns
+abbrev pub cutBytes : Cut → List ℕ
+cutBytes c = 4 ∷ be16 (opSize (c .form)) ++ c .there
+
+-- six numbers, a mark and a hold are an operation's field, of 20 bytes where it is marked; what is left over at the end is one with numbers missing,
+-- and with it the input ends. Behind whole operations comes what is last.
+unfoldable pub opsBytes : Cut → List ℕ → List ℕ → List ℕ → List ℕ
+opsBytes cut last [] [] = last
+opsBytes cut last [] (k ∷ hs) = cutBytes cut
+opsBytes cut last (t ∷ []) hs = cutBytes cut
+opsBytes cut last (t ∷ d ∷ []) hs = cutBytes cut
+opsBytes cut last (t ∷ d ∷ b ∷ []) hs = cutBytes cut
+opsBytes cut last (t ∷ d ∷ b ∷ r ∷ []) hs = cutBytes cut
+opsBytes cut last (t ∷ d ∷ b ∷ r ∷ w ∷ []) hs = cutBytes cut
+opsBytes cut last (t ∷ d ∷ b ∷ r ∷ w ∷ m ∷ ns) [] = cutBytes cut
+opsBytes cut last (t ∷ d ∷ b ∷ r ∷ w ∷ m ∷ ns) (k ∷ []) = cutBytes cut
+opsBytes cut last (t ∷ d ∷ b ∷ r ∷ w ∷ m ∷ ns) (k ∷ h ∷ hs) =
+    opForm (markedOf (k ∷ [])) (opOfNumbers (t ∷ d ∷ b ∷ r ∷ w ∷ m ∷ []) (k ∷ h ∷ [])) ++ opsBytes cut last ns hs
 
 -- the fields 01, 02 and 03, with as many follower words as there are, the operations' fields, and the decider's where it is marked
-unfoldable pub numbersBytes : Numbers → List ℕ
+unfoldable pub numbersBytes : Cut → Numbers → List ℕ
 unfolding joined opsBytes
-numbersBytes N = headBytes (headOfNumbers N) ++ opsBytes (deciderBytes (deciderOf N)) (N .ops)
+numbersBytes cut N = headBytes (headOfNumbers N) ++ opsBytes cut (deciderBytes (deciderOf N)) (N .ops) (N .holds)
 
 -- ---- numbers that fit their fields
 
@@ -73,18 +88,27 @@ pub record SetsFit (N : Numbers) : Type 0 where
   pub first : N .first < 2 ^ 32
   pub follow : (a : ℕ) → a < length (N .follow) → getD (N .follow) a 0 < 2 ^ 32
 
--- "start, duration, boards (16 bits each), reads, writes, modes (32 bits each)"
+-- "start, duration, boards (16 bits each), reads, writes, modes (32 bits each)"; "a 16-bit hold"
 pub record OpFits (o : Op) : Type 0 where
   pub start : o .start < 65536
   pub dur : o .dur < 65536
+  pub hold : o .hold < 65536
   pub boards : o .boards < 65536
   pub reads : o .reads < 2 ^ 32
   pub writes : o .writes < 2 ^ 32
   pub modes : o .modes < 2 ^ 32
 
--- the operation k of a list of numbers
-abbrev pub opAmong : List ℕ → ℕ → Op
-opAmong ns k = opOfNumbers (drop (6 * k) ns)
+-- the operation k of the numbers, and whether it is marked
+abbrev pub opAmong : List ℕ → List ℕ → ℕ → Op
+opAmong ns hs k = opOfNumbers (drop (6 * k) ns) (drop (2 * k) hs)
+
+abbrev pub markAmong : List ℕ → ℕ → Bool
+markAmong hs k = markedOf (drop (2 * k) hs)
+
+-- its field, if the first would be written at a place
+unfoldable pub placeAmong : List ℕ → ℕ → ℕ → ℕ
+placeAmong hs at zero = at
+placeAmong hs at (suc k) = placeAmong (drop 2 hs) (at + 3 + opSize (markedOf hs)) k
 
 -- each number fits its field, and so does the length of the field of the followers. (Nothing is asked of the numbers of an operation with
 -- numbers missing: it is refused before they are looked at.)
@@ -93,5 +117,5 @@ pub record NumbersFit (N : Numbers) : Type 0 where
   pub counts : CountsFit N
   pub sets : SetsFit N
   pub size : 4 + 4 * length (N .follow) < 65536
-  pub each : (k : ℕ) → 6 * k + 6 ≤ length (N .ops) → OpFits (opAmong (N .ops) k)
+  pub each : (k : ℕ) → 6 * k + 6 ≤ length (N .ops) → 2 * k + 2 ≤ length (N .holds) → OpFits (opAmong (N .ops) (N .holds) k)
   pub decider : (d : ℕ) → deciderOf N ≡ decides d → d < 256

@@ -22,12 +22,13 @@ pub extern "C" fn trevozhil_judge_numbers(
     first: u64,
     follow: &[u64],
     ops: &[u64],
+    holds: &[u64],
     mark: u64,
     decider: u64,
     a: &mut u64,
     b: &mut u64,
 ) -> u32
-    ensures { λ r. ⌜ NumbersTell (numbers p boards cells modes first (now (follow .entry)) (now (ops .entry)) mark decider) (figuresOf r (now (a .exit)) (now (b .exit))) ⌝ }
+    ensures { λ r. ⌜ NumbersTell (numbers p boards cells modes first (now (follow .entry)) (now (ops .entry)) (now (holds .entry)) mark decider) (figuresOf r (now (a .exit)) (now (b .exit))) ⌝ }
 {
     calls::judge_numbers(
         p,
@@ -37,6 +38,7 @@ pub extern "C" fn trevozhil_judge_numbers(
         first,
         follow,
         ops,
+        holds,
         mark,
         decider,
         a,
@@ -54,13 +56,14 @@ pub extern "C" fn trevozhil_write(
     first: u64,
     follow: &[u64],
     ops: &[u64],
+    holds: &[u64],
     mark: u64,
     decider: u64,
     out: &mut [u8],
     a: &mut u64,
     b: &mut u64,
 ) -> u32
-    ensures { λ r. ⌜ WriteEnds (numbers p boards cells modes first (now (follow .entry)) (now (ops .entry)) mark decider) (now (out .entry)) (ended (figuresOf r (now (a .exit)) (now (b .exit))) (now (out .exit))) ⌝ }
+    ensures { λ r. ⌜ WriteEnds (numbers p boards cells modes first (now (follow .entry)) (now (ops .entry)) (now (holds .entry)) mark decider) (now (out .entry)) (ended (figuresOf r (now (a .exit)) (now (b .exit))) (now (out .exit))) ⌝ }
 {
     calls::write(
         p,
@@ -70,6 +73,7 @@ pub extern "C" fn trevozhil_write(
         first,
         follow,
         ops,
+        holds,
         mark,
         decider,
         out,

@@ -140,7 +140,7 @@ module _ (T : Table) (ok : Accepted T) (F : List ℕ) (turns : TurnsOf T F) (col
 
   cell-len : (c : ℕ) → c < 32 → CellBy c (T .len)
   cell-len c small =
-      of-by c small (T .len) (λ i hi w n j hj r s. in-time-late (endOf (op T i)) (op T j .start) n (T .len) (ok .each i hi .fits))
+      of-by c small (T .len) (λ i hi w n j hj r s. in-time-late (endOf (op T i)) (op T j .start) n (T .len) (omega (arith, ok .each i hi .fits)))
 
   pub raised-bound : (r : ℕ) → Raised 1 (Each CellBy (T .cells)) r → IsBound T R r
   raised-bound r x =

@@ -16,7 +16,7 @@ ghost use Rattle.values.specs.Bounds.{IsBound, TurnsFine, WriterFine, Ce
 // nothing. The search ends where n + 1 cycles of the bound itself take until `end`, for the reader that starts first, or where no mode is
 // new: a reader in a mode that was seen before asked for more then than it would now.
 fn ask_turns(
-    cols: &[u32; 192],
+    cols: &[u32; 224],
     follow: &[u32],
     readers: u32,
     fresh: &[u32; 32],
@@ -51,7 +51,7 @@ fn ask_turns(
 // The bound, raised by what operation i writes into a cell, from the reached modes in which it is the last to write it. Mostly the bound is
 // long enough for every reader already, and no turn has to be made.
 fn ask_writer(
-    cols: &[u32; 192],
+    cols: &[u32; 224],
     follow: &[u32],
     reached: u32,
     writers: u32,
@@ -86,7 +86,7 @@ fn ask_writer(
 
 // The bound, raised by every value of a cell. Where nobody writes it or nobody reads it, no value is asked for.
 fn ask_cell(
-    cols: &[u32; 192],
+    cols: &[u32; 224],
     follow: &[u32],
     reached: u32,
     writers: u32,
@@ -125,7 +125,7 @@ fn ask_cell(
 }
 
 // The smallest period at which every value is in time, for runs through the modes `reached`.
-pub fn values_bound(follow: &[u32], cols: &[u32; 192], count: u32, reached: u32) -> u32
+pub fn values_bound(follow: &[u32], cols: &[u32; 224], count: u32, reached: u32) -> u32
     requires { ⌜ Short (now cols) × (count ≤ 32) ⌝ }
     ensures { λ r. ⌜ ((T : Table) → Accepted T → Columns T (now (cols .entry)) → TurnsOf T (now (follow .entry)) → T .cells ≡ count → IsBound T reached r) ⌝ }
 {

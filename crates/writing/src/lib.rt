@@ -22,9 +22,9 @@ fn put_table(out: &mut [u8], t: Table)
     ensures { λ _. ⌜ now (out .exit) ≡ tableBytes (tableOf t) ++ drop (length (tableBytes (tableOf t))) (now (out .entry)) ⌝ }
 {
     writing_head::put_head(out, t);
-    writing_ops::put_ops(out, t);
+    let at = writing_ops::put_ops(out, t);
     let who = t.decider;
-    writing_decider::put_decider(out, table::ops_end(t.modes, t.count), who);
+    writing_decider::put_decider(out, at, who);
 }
 
 // A table's bytes at the front of a buffer, or a refusal that needs more room and keeps every byte.
@@ -32,9 +32,10 @@ fn write_table(out: &mut [u8], t: Table) -> Answer
     requires { ⌜ Writable t × (t .count ≤ 32) × Byte (whoOf (t .decider)) ⌝ }
     ensures { λ r. ⌜ leaving (answered r) (now (out .exit)) ≡ put (tableBytes (tableOf t)) (now (out .entry)) ⌝ }
 {
-    let ops = table::ops_end(t.modes, t.count);
+    let ops = t.ops;
+    let end = widths::ops_end(t.modes, ops, t.count);
     let who = t.decider;
-    let size = writing_decider::with_decider(ops, who);
+    let size = writing_decider::with_decider(end, who);
     if out.len() < size {
         return Answer::Denied(Refusal::Room(size));
     }
@@ -51,13 +52,25 @@ pub fn write(
     first: u64,
     follow: &[u64],
     ops: &[u64],
+    holds: &[u64],
     mark: u64,
     decider: u64,
     out: &mut [u8],
 ) -> Answer
-    ensures { λ r. ⌜ IsWrite (numbers p boards cells modes first (now (follow .entry)) (now (ops .entry)) mark decider) (now (out .entry)) (leaving (answered r) (now (out .exit))) ⌝ }
+    ensures { λ r. ⌜ IsWrite (numbers p boards cells modes first (now (follow .entry)) (now (ops .entry)) (now (holds .entry)) mark decider) (now (out .entry)) (leaving (answered r) (now (out .exit))) ⌝ }
 {
-    let judged = handed::judge(p, boards, cells, modes, first, follow, ops, mark, decider);
+    let judged = handed::judge(
+        p,
+        boards,
+        cells,
+        modes,
+        first,
+        follow,
+        ops,
+        holds,
+        mark,
+        decider,
+    );
     let v = judged.verdict;
     match v {
         Verdict::Refused(q) => Answer::Denied(q),

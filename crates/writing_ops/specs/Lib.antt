@@ -1,1 +1,2 @@
 pub mod WritingOps
+pub mod WritingOpLaws

@@ -1,17 +1,15 @@
--- The operations' bytes, and how many bytes a table has.
+-- The operations' bytes.
 -- Assumes nothing.
-use Prim.Native.Nat.{ℕ, _+_, _*_}
-use mathlib.Core.List.{List}
-use Rattle.rules.specs.Bytes.{opBytes}
-use Rattle.rules.specs.Judge.{opsPlace}
+use Prim.Native.Nat.{ℕ}
+use mathlib.Core.List.{List, _++_}
+use Rattle.rules.specs.Bytes.{be16, be32, opBytes}
 use Rattle.table.specs.Tables.{opOf}
 use Rattle.table.specs.declared.Op.{Op}
-use Rattle.table.specs.declared.Table.{Table}
 
 -- an operation's field
 abbrev pub bytesOfOp : Op → List ℕ
 bytesOfOp o = opBytes (opOf o)
 
--- how many bytes a table has
-abbrev pub sizeOf : Table → ℕ
-sizeOf t = opsPlace (t .modes) + 21 * t .count
+-- the sets in it
+abbrev pub usedBytes : Op → List ℕ
+usedBytes o = be16 (o .boards) ++ be32 (o .reads) ++ be32 (o .writes) ++ be32 (o .modes)

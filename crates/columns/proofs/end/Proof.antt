@@ -1,4 +1,4 @@
--- The sum is at most 1000.
+-- The sum is short, by the two dates of the operation.
 -- Assumes nothing.
 use native.Mathlib.Omega.{arith}
 use borrow.Author.Needs.{needs}
@@ -21,10 +21,12 @@ element-copy-out-result-2 : tie.Need-element-copy-out-result-2
 element-copy-out-result-2 c = search needs
 
 add-result-2 : tie.Need-add-result-2
-add-result-2 c = omega (arith, c .before .before .pre .1 .ends _ (c .before .before .pre .0))
+add-result-2 c =
+    let s = c .before .before .pre in
+    omega (arith, s .1 .ends _ (s .0), s .1 .leaves _ (s .0))
 
 returns : tie.Need-returns
-returns c = search needs
+returns c = omega arith
 
 pub end-spec : {M : Type 1} → statement M
 end-spec =

@@ -10,7 +10,8 @@ use Rattle.rules.specs.Table.{nobody, decides}
 use Rattle.theory.proofs.Ranges.{decider-none, decider-within}
 use Rattle.table.specs.Tables.{tableOf}
 use Rattle.table.specs.TableLaws.{kept-few}
-use Rattle.deciders.specs.DeciderLaws.{handed-bad, handed-fine, count-is, end-is}
+use Rattle.widths.specs.WidthLaws.{size-few}
+use Rattle.deciders.specs.DeciderLaws.{handed-bad, handed-fine, count-is}
 use Rattle.deciders.proofs.hand_behind.Statement.{statement}
 use Rattle.deciders.proofs.hand_behind.Tie as tie
 
@@ -39,12 +40,14 @@ decider-wrong-requires : tie.Need-decider-wrong-requires
 decider-wrong-requires c κs = search needs
 
 ops-end-requires : tie.Need-ops-end-requires
-ops-end-requires c κs =
-    few (c .before .before .before)
+ops-end-requires c κs = let s = c .before .before .before .before in (few s, long s)
 
-add-t8 : tie.Need-add-t8
-add-t8 c =
-    omega (arith, decider-within _ _ (c .before .before .decider-wrong .ensures), few (c .before .before .before .before), c .ops-end .ensures)
+add-t9 : tie.Need-add-t9
+add-t9 c =
+    let d = c .before .before .before in
+    let s = d .before .before in
+    let t = s .args .t in
+    omega (arith, decider-within _ _ (d .decider-wrong .ensures), few s, size-few (t .ops) (t .count), c .ops-end .ensures)
 
 deny-requires : tie.Need-deny-requires
 deny-requires c κs = search needs
@@ -52,13 +55,13 @@ deny-requires c κs = search needs
 returns-2 : tie.Need-returns-2
 returns-2 c =
     let o = c .before in
-    let d = o .before .before in
+    let d = o .before .before .before in
     let s = d .before .before in
     let t = s .args .t in
     let full = holds s in
     rw (
       ne-eqb (s .args .mark) 0 (d .before .if1 .left),
-      handed-bad (tableOf t) (end-is t full (o .ops-end .ensures)) (count-is t full) (decides (s .args .decider)) (d .decider-wrong .ensures) (o .before .if2 .taken),
+      handed-bad (tableOf t) (o .ops-end .ensures) (count-is t full) (decides (s .args .decider)) (d .decider-wrong .ensures) (o .before .before .if2 .taken),
     )
     (c .deny .ensures)
 
@@ -85,7 +88,7 @@ hand-behind-spec =
     returns
     decider-wrong-requires
     ops-end-requires
-    add-t8
+    add-t9
     deny-requires
     returns-2
     named-requires-2

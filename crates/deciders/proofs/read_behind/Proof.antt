@@ -9,7 +9,7 @@ use borrow.Author.Needs.{needs}
 use Rattle.fields.specs.RefusalLaws.{passed-as, refused-as}
 use Rattle.table.specs.Tables.{tableOf}
 use Rattle.table.specs.TableLaws.{kept-few}
-use Rattle.deciders.specs.DeciderLaws.{test-whole, behind-bad, behind-fine, count-is, end-is}
+use Rattle.deciders.specs.DeciderLaws.{test-whole, behind-bad, behind-fine, count-is}
 use Rattle.deciders.proofs.read_behind.Statement.{statement}
 use Rattle.deciders.proofs.read_behind.Tie as tie
 
@@ -24,7 +24,7 @@ holds : (s : tie.Start) → s .args .t .count ≤ length (s .args .t .ops)
 holds s = omega (arith, few s, long s)
 
 ops-end-requires : tie.Need-ops-end-requires
-ops-end-requires c κs = few (c .before)
+ops-end-requires c κs = (few (c .before .before), long (c .before .before))
 
 field-test-requires : tie.Need-field-test-requires
 field-test-requires c κs = search needs
@@ -42,18 +42,18 @@ who-at-requires : tie.Need-who-at-requires
 who-at-requires c κs = test-whole _ _ _ (sym (passed-as (c .before .before .field-test .ensures) (c .enum-told .given .1)))
 
 named-requires : tie.Need-named-requires
-named-requires c κs = c .before .before .before .before .before .before .pre
+named-requires c κs = c .before .before .before .before .before .before .before .pre
 
 returns : tie.Need-returns
 returns c =
     let v = c .before .before in
     let f = v .before .before in
     let o = f .before in
-    let s = o .before .before in
+    let s = o .before .before .before in
     let t = s .args .t in
     let full = holds s in
     rw
-    (behind-bad (tableOf t) (end-is t full (o .ops-end .ensures)) (count-is t full) (now (s .args .s)) (v .v .given .0 .0)
+    (behind-bad (tableOf t) (o .ops-end .ensures) (count-is t full) (now (s .args .s)) (v .v .given .0 .0)
     (refused-as (f .field-test .ensures) (v .v .given .1)))
     (c .deny .ensures)
 
@@ -63,11 +63,11 @@ returns-2 c =
     let e = w .before in
     let f = e .before .before in
     let o = f .before in
-    let s = o .before .before in
+    let s = o .before .before .before in
     let t = s .args .t in
     let full = holds s in
     rw
-    (behind-fine (tableOf t) (end-is t full (o .ops-end .ensures)) (count-is t full) (now (s .args .s))
+    (behind-fine (tableOf t) (o .ops-end .ensures) (count-is t full) (now (s .args .s))
     (passed-as (f .field-test .ensures) (e .enum-told .given .1)) (w .who-at .ensures))
     (c .named .ensures)
 

@@ -2,10 +2,12 @@
 -- Assumes nothing.
 use native.Mathlib.Nat.{mul-le-mul}
 use native.Mathlib.Omega.{arith}
-use mathlib.Core.Path.{_∙_}
+use mathlib.Core.Path.{_≡_, _∙_}
 use mir.Facts.{toZ-ofZ}
 use mir.Syntax.{w32}
 use borrow.Author.Needs.{needs}
+use Rattle.rules.specs.Table.{endOf}
+use Rattle.table.specs.Tables.{opOf}
 use Rattle.margins.proofs.measure.Statement.{statement}
 use Rattle.margins.proofs.measure.Tie as tie
 
@@ -29,7 +31,10 @@ diff-requires c κs =
     )
 
 returns : tie.Need-returns
-returns c = toZ-ofZ {w = w32} (search needs) ∙ c .diff .ensures ∙ rw (c .before .end-of .ensures)
+returns c =
+    let x = c .before in
+    let end : x .end-of .result ≡ endOf (opOf (x .before .before .args .o)) = x .end-of .ensures in
+    toZ-ofZ {w = w32} (search needs) ∙ c .diff .ensures ∙ rw end
 
 pub measure-spec : {M : Type 1} → statement M
 measure-spec = tie.close (tie.spec mul-later add-later end-of-requires cast-end diff-requires returns)

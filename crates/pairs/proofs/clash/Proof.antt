@@ -1,7 +1,11 @@
--- The tests stand in the order of the definition: the first that fails answers no, and the last answers for itself.
+-- The tests stand in the order of the definition: the first that fails answers no, and the last answers for itself, by how long each holds
+-- its boards.
 -- Assumes nothing.
+use mathlib.Core.Path.{_≡_}
 use borrow.Author.Needs.{needs}
+use Rattle.rules.specs.Table.{heldTo}
 use Rattle.rules.specs.Judge.{clashes}
+use Rattle.table.specs.Tables.{opOf}
 use Rattle.pairs.specs.PairLaws.{is-so, is-not}
 use Rattle.pairs.proofs.clash.Statement.{statement}
 use Rattle.pairs.proofs.clash.Tie as tie
@@ -44,11 +48,14 @@ returns-3 c =
     let h1 = h2 .before .before in
     let e2 = h1 .before .before in
     let e1 = e2 .before .before in
+    let a = e1 .before .before .args in
+    let first : h1 .held-to .result ≡ heldTo (opOf (a .o)) = h1 .held-to .ensures in
+    let second : h2 .held-to2 .result ≡ heldTo (opOf (a .u)) = h2 .held-to2 .ensures in
     rw (
       is-so (e1 .before .meets .ensures) (e1 .if1 .left),
       is-so (e2 .before .meets2 .ensures) (e2 .if2 .left),
-      ← h1 .held-to .ensures,
-      ← h2 .held-to2 .ensures,
+      ← first,
+      ← second,
     )
     (c .overlap .ensures)
 

@@ -1,7 +1,11 @@
 -- The tests stand in the order of the definition: the first that decides answers, and the last answers for itself.
 -- Assumes nothing.
+use mathlib.Core.Path.{_≡_}
 use borrow.Author.Needs.{needs}
+use Rattle.rules.specs.Sets.{overlaps}
+use Rattle.rules.specs.Table.{endOf}
 use Rattle.rules.specs.Judge.{races}
+use Rattle.table.specs.Tables.{opOf}
 use Rattle.pairs.specs.PairLaws.{is-so, is-not}
 use Rattle.pairs.proofs.race.Statement.{statement}
 use Rattle.pairs.proofs.race.Tie as tie
@@ -28,18 +32,23 @@ end-of-requires-2 c κs = search needs
 overlap-requires : tie.Need-overlap-requires
 overlap-requires c κs = search needs
 
+-- they overlap where they use their cells at once
+lap : (c : tie.After-overlap)
+    → let a = c .before .before .before .before .before .before .before .args in
+    c .overlap .result ≡ overlaps (a .o .start) (endOf (opOf (a .o))) (a .u .start) (endOf (opOf (a .u)))
+lap c =
+    let h2 = c .before in
+    let h1 = h2 .before .before in
+    let a = h1 .before .before .before .before .args in
+    let first : h1 .end-of .result ≡ endOf (opOf (a .o)) = h1 .end-of .ensures in
+    let second : h2 .end-of2 .result ≡ endOf (opOf (a .u)) = h2 .end-of2 .ensures in
+    rw (first, second) at (c .overlap .ensures)
+
 returns-2 : tie.Need-returns-2
 unfolding races
 returns-2 c =
-    let h2 = c .before .before in
-    let h1 = h2 .before .before in
-    let e1 = h1 .before .before in
-    rw (
-      is-so (e1 .before .meets .ensures) (e1 .if1 .left),
-      ← h1 .end-of .ensures,
-      ← h2 .end-of2 .ensures,
-      is-not (c .before .overlap .ensures) (c .if2 .taken),
-    )
+    let e1 = c .before .before .before .before .before .before in
+    rw (is-so (e1 .before .meets .ensures) (e1 .if1 .left), is-not (lap (c .before)) (c .if2 .taken))
 
 meets-requires-2 : tie.Need-meets-requires-2
 meets-requires-2 c κs = search needs
@@ -48,14 +57,10 @@ returns-3 : tie.Need-returns-3
 unfolding races
 returns-3 c =
     let e2 = c .before .before .before in
-    let h2 = e2 .before .before in
-    let h1 = h2 .before .before in
-    let e1 = h1 .before .before in
+    let e1 = e2 .before .before .before .before .before .before in
     rw (
       is-so (e1 .before .meets .ensures) (e1 .if1 .left),
-      ← h1 .end-of .ensures,
-      ← h2 .end-of2 .ensures,
-      is-so (e2 .before .overlap .ensures) (e2 .if2 .left),
+      is-so (lap (e2 .before)) (e2 .if2 .left),
       ← c .before .meets2 .ensures,
       c .if3 .taken,
     )
@@ -68,14 +73,10 @@ unfolding races
 returns-4 c =
     let e3 = c .before in
     let e2 = e3 .before .before .before in
-    let h2 = e2 .before .before in
-    let h1 = h2 .before .before in
-    let e1 = h1 .before .before in
+    let e1 = e2 .before .before .before .before .before .before in
     rw (
       is-so (e1 .before .meets .ensures) (e1 .if1 .left),
-      ← h1 .end-of .ensures,
-      ← h2 .end-of2 .ensures,
-      is-so (e2 .before .overlap .ensures) (e2 .if2 .left),
+      is-so (lap (e2 .before)) (e2 .if2 .left),
       ← e3 .before .meets2 .ensures,
       e3 .if3 .left,
     )

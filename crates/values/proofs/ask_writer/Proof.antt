@@ -1,10 +1,13 @@
 -- Where a cycle of the bound takes until the operation's end, for the reader that starts first, nothing is asked for; else it is asked for at every
 -- distance, from the reached modes in which the operation is the last to write the cell.
 -- Assumes nothing.
+use mathlib.Core.Path.{_≡_}
 use native.Mathlib.Omega.{arith}
 use borrow.Author.Needs.{needs}
 use lib.Bits.{bitAnd}
 use lib.ListN.{getD}
+use Rattle.rules.specs.Table.{endOf}
+use Rattle.columns.specs.Columns.{opBy}
 use Rattle.cells.specs.Cells.{freshOf}
 use Rattle.raises.specs.Raises.{Raised}
 use Rattle.raises.specs.RaiseLaws.{raised-as}
@@ -33,7 +36,8 @@ ask-turns-requires : tie.Need-ask-turns-requires
 ask-turns-requires c κs =
     let s = c .before .before .before .before in
     let p = s .pre in
-    (p .0, p .1, omega (arith, c .before .before .end .ensures, p .0 .ends (s .args .i) (p .4)), p .5, p .6)
+    let a = s .args in
+    (p .0, p .1, omega (arith, c .before .before .end .ensures, p .0 .ends (a .i) (p .4), p .0 .leaves (a .i) (p .4)), p .5, p .6)
 
 returns-2 : tie.Need-returns-2
 unfolding WriterFine
@@ -43,11 +47,12 @@ returns-2 c =
     let s = n .before .before in
     let a = s .args in
     let cols = a .cols .now in
+    let end : n .end .result ≡ endOf (opBy cols (a .i)) = n .end .ensures in
     let x : Raised (a .bound) (TurnsFine (a .follow .now) cols (a .readers) (λ j. getD (a .fresh .now) j 0) (a .written) (n .end .result) 0 (bitAnd (a .reached) (l .last-in .result))) (c .ask-turns .result)
     = c .ask-turns .ensures
     in
     raised-as (turns-same (a .follow .now) cols (a .readers) _ (freshOf cols (a .writers)) (s .pre .2 .each) _ _ _ _)
-    (rw (s .pre .3, n .end .ensures, l .last-in .ensures) at x)
+    (rw (s .pre .3, end, l .last-in .ensures) at x)
 
 pub ask-writer-spec : {M : Type 1} → statement M
 ask-writer-spec =

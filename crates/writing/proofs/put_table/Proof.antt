@@ -13,7 +13,8 @@ use Rattle.puts.specs.Puts.{stored}
 use Rattle.puts.specs.PutLaws.{stored-then, stored-front}
 use Rattle.writing_head.specs.WritingHeadLaws.{head-size}
 use Rattle.writing_ops.specs.WritingOps.{bytesOfOp}
-use Rattle.writing.specs.WritingLaws.{table-size, ops-size, table-parts}
+use Rattle.writing_ops.specs.WritingOpLaws.{size-bytes}
+use Rattle.writing.specs.WritingLaws.{table-size, table-parts}
 use Rattle.writing.proofs.put_table.Statement.{statement}
 use Rattle.writing.proofs.put_table.Tie as tie
 
@@ -23,13 +24,10 @@ put-head-requires c κs = search needs
 put-ops-requires : tie.Need-put-ops-requires
 put-ops-requires c κs = search needs
 
-ops-end-requires : tie.Need-ops-end-requires
-ops-end-requires c κs = search needs
-
 put-decider-requires : tie.Need-put-decider-requires
 put-decider-requires c κs =
-    let s = c .before .before .before .before .before .before .before .before .before .before .before in
-    (omega (arith, c .ops-end .ensures, s .pre .3), s .pre .2)
+    let s = c .before .before .before .before .before .before .before .before .before .before in
+    (omega (arith, c .before .before .before .put-ops .ensures .1, s .pre .3), s .pre .2)
 
 same-length : tie.Need-same-length
 same-length c = search needs
@@ -37,20 +35,18 @@ same-length c = search needs
 returns : tie.Need-returns
 returns c =
     let x3 = c .before .before in
-    let o = x3 .before in
-    let x2 = o .before .before .before .before in
+    let x2 = x3 .before .before .before .before in
     let x1 = x2 .before .before .before .before in
     let s = x1 .before .before .before in
     let t = s .args .t in
     let out = now (s .args .out) in
     let words : length (t .follow) ≡ 32 = simp length-map at (s .good .1 .0 .1 .1 .1 .1 .1 .1 .1 .0 .1 .0 .1) in
-    let ops : length (t .ops) ≡ 32 = simp length-map at (s .good .1 .0 .1 .1 .1 .1 .1 .1 .1 .1 .0 .1 .0 .1) in
-    let size = table-size t words (s .pre .0 .modes) ops (s .pre .1) in
+    let size = table-size t words (s .pre .0 .modes) in
     let room : length (tableBytes (tableOf t)) ≤ length out = omega (arith, s .pre .3) in
     let head = head-size t words (s .pre .0 .modes) in
     let long = length-append (headBytes (tableOf t)) (joined bytesOfOp (take (t .count) (t .ops))) in
-    let e2 = stored-then out 0 _ _ (x1 .put-head .ensures) (omega (arith, head)) (x2 .put-ops .ensures) in
-    stored-then out 0 _ _ e2 (omega (arith, o .ops-end .ensures, long, head, ops-size t ops (s .pre .1))) (x3 .put-decider .ensures)
+    let e2 = stored-then out 0 _ _ (x1 .put-head .ensures) (omega (arith, head)) (x2 .put-ops .ensures .0) in
+    stored-then out 0 _ _ e2 (omega (arith, x2 .put-ops .ensures .1, long, head, size-bytes (t .ops) (t .count))) (x3 .put-decider .ensures)
     ∙ ap (λ (l : List ℕ). stored out 0 l) (sym (table-parts t))
     ∙ stored-front out (tableBytes (tableOf t)) room
 
@@ -60,7 +56,6 @@ put-table-spec =
     (tie.spec
     put-head-requires
     put-ops-requires
-    ops-end-requires
     put-decider-requires
     same-length
     returns)

@@ -1,85 +1,54 @@
--- Each number stands behind the one before it, and together they are the operation's field.
+-- A hold that is there asks for the form with a hold.
 -- Assumes nothing.
-use mathlib.Core.Path.{refl}
-use Rattle.puts.specs.PutLaws.{stored-then}
+use Prim.Native.Nat.{ℕ}
+use mathlib.Core.Path.{_≡_, ap, _∙_}
+use mathlib.Core.Bool.{true, false, not}
+use mathlib.Core.List.{List}
+use native.Mathlib.Omega.{arith}
+use denote.Ref.{now}
 use borrow.Author.Needs.{needs}
+use borrow.Author.Tests.{eq-eqb, ne-eqb}
+use Rattle.rules.specs.Bytes.{settles, opSize}
+use Rattle.table.specs.Tables.{opOf}
+use Rattle.puts.specs.Puts.{stored}
+use Rattle.writing_ops.specs.WritingOpLaws.{form-bytes}
 use Rattle.writing_ops.proofs.put_op.Statement.{statement}
 use Rattle.writing_ops.proofs.put_op.Tie as tie
 
-put-header-requires : tie.Need-put-header-requires
-put-header-requires c κs = search needs
+-- which form that is
+held : (c : tie.Then1) → settles (opOf (c .before .before .before .args .o)) ≡ true
+held c = ap not (ne-eqb (c .before .before .before .args .o .hold) 0 (c .if1 .taken))
 
-add-put16 : tie.Need-add-put16
-add-put16 c = search needs
+plain : (c : tie.Else1) → settles (opOf (c .before .before .before .args .o)) ≡ false
+plain c = ap not (eq-eqb (c .before .before .before .args .o .hold) 0 (omega (arith, c .if1 .left)))
 
-put16-requires : tie.Need-put16-requires
-put16-requires c κs = search needs
-
-add-put16-2 : tie.Need-add-put16-2
-add-put16-2 c = search needs
-
-put16-requires-2 : tie.Need-put16-requires-2
-put16-requires-2 c κs = search needs
-
-add-put16-3 : tie.Need-add-put16-3
-add-put16-3 c = search needs
-
-put16-requires-3 : tie.Need-put16-requires-3
-put16-requires-3 c κs = search needs
-
-add-put32 : tie.Need-add-put32
-add-put32 c = search needs
-
-put32-requires : tie.Need-put32-requires
-put32-requires c κs = search needs
-
-add-put32-2 : tie.Need-add-put32-2
-add-put32-2 c = search needs
-
-put32-requires-2 : tie.Need-put32-requires-2
-put32-requires-2 c κs = search needs
-
-add-put32-3 : tie.Need-add-put32-3
-add-put32-3 c = search needs
-
-put32-requires-3 : tie.Need-put32-requires-3
-put32-requires-3 c κs = search needs
+put-held-requires : tie.Need-put-held-requires
+put-held-requires c κs = let i = c .before in omega (arith, i .before .before .before .pre, ap opSize (held i))
 
 same-length : tie.Need-same-length
 same-length c = search needs
 
 returns : tie.Need-returns
 returns c =
-    let x7 = c .before .before in
-    let x6 = x7 .before .before .before .before in
-    let x5 = x6 .before .before .before .before in
-    let x4 = x5 .before .before .before .before in
-    let x3 = x4 .before .before .before .before in
-    let x2 = x3 .before .before .before .before in
-    let x1 = x2 .before .before .before .before in
-    let e2 = stored-then _ _ _ _ (x1 .put-header .ensures) refl (x2 .put16 .ensures) in
-    let e3 = stored-then _ _ _ _ (e2) refl (x3 .put162 .ensures) in
-    let e4 = stored-then _ _ _ _ (e3) refl (x4 .put163 .ensures) in
-    let e5 = stored-then _ _ _ _ (e4) refl (x5 .put32 .ensures) in
-    let e6 = stored-then _ _ _ _ (e5) refl (x6 .put322 .ensures) in
-    stored-then _ _ _ _ e6 refl (x7 .put323 .ensures)
+    let x = c .before .before in
+    let i = x .before .before in
+    let a = i .before .before .before .args in
+    x .put-held .ensures ∙ ap (λ (l : List ℕ). stored (now (a .out)) (a .at) l) (form-bytes (opOf (a .o)) true (held i))
+
+put-plain-requires : tie.Need-put-plain-requires
+put-plain-requires c κs = let i = c .before in omega (arith, i .before .before .before .pre, ap opSize (plain i))
+
+same-length-2 : tie.Need-same-length-2
+same-length-2 c = search needs
+
+returns-2 : tie.Need-returns-2
+returns-2 c =
+    let x = c .before .before in
+    let i = x .before .before in
+    let a = i .before .before .before .args in
+    x .put-plain .ensures ∙ ap (λ (l : List ℕ). stored (now (a .out)) (a .at) l) (form-bytes (opOf (a .o)) false (plain i))
 
 pub put-op-spec : {M : Type 1} → statement M
 put-op-spec =
     tie.close
-    (tie.spec
-    put-header-requires
-    add-put16
-    put16-requires
-    add-put16-2
-    put16-requires-2
-    add-put16-3
-    put16-requires-3
-    add-put32
-    put32-requires
-    add-put32-2
-    put32-requires-2
-    add-put32-3
-    put32-requires-3
-    same-length
-    returns)
+    (tie.spec put-held-requires same-length returns put-plain-requires same-length-2 returns-2)

@@ -1,0 +1,2 @@
+pub mod ReadingOps
+pub mod ReadingOpLaws
