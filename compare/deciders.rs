@@ -1,10 +1,14 @@
 //! Kinds of inputs that have to do with a decider (document 02, No. 4), as the planner reads
 //! and judges them, and how often each was met.
 
+use crate::counts::{self, Kind};
 use crate::judge::{has, judge_early, judge_table, read_numbers, read_table};
 use crate::judge::{Numbers, Op, Refusal, Table, CLASH, EARLY, MANY, MOST_OPS};
 use crate::judge::{NUMBERS_PER_OP, ORDER, RACE, SHORT, SIZE};
 use crate::walks::reached_modes;
+
+/// What all of these have in common.
+const COMMON: &str = "with a decider";
 
 // ---- tables -------------------------------------------------------------
 
@@ -248,7 +252,7 @@ impl Deciders {
     }
 
     /// Every kind with its counts: as bytes and as numbers, where it can be met so.
-    fn all(&self) -> Vec<(&'static str, [Option<u64>; 2])> {
+    fn all(&self) -> Vec<Kind> {
         let tables = OF_TABLES.iter().zip(&self.tables);
         let tables = tables.map(|((name, _), counts)| (*name, counts.map(Some)));
         let fields = OF_FIELDS.iter().zip(&self.fields);
@@ -260,20 +264,11 @@ impl Deciders {
 
     /// A line for each kind.
     pub fn print(&self) {
-        println!("{:<36}{:>8}{:>8}", "with a decider", "bytes", "numbers");
-        for (name, counts) in self.all() {
-            let [bytes, numbers] = counts.map(|it| it.map_or(String::new(), |it| it.to_string()));
-            let line = format!("{:<36}{:>8}{:>8}", name, bytes, numbers);
-            println!("{}", line.trim_end());
-        }
+        counts::print(COMMON, &self.all());
     }
 
     /// The kinds that were not met.
     pub fn missed(&self) -> Vec<String> {
-        let all = self.all().into_iter();
-        let missed = all.filter(|(_, counts)| counts.contains(&Some(0)));
-        missed
-            .map(|(name, _)| format!("with a decider, never met: {}", name))
-            .collect()
+        counts::missed(COMMON, &self.all())
     }
 }

@@ -1,10 +1,14 @@
 //! Kinds of inputs that have to do with a hold (document 02, No. 9), as the planner reads and
 //! judges them, and how often each was met.
 
+use crate::counts::{self, Kind};
 use crate::judge::{behind_ops, clash, judge_table, number_in, op_in, race, read_numbers};
 use crate::judge::{read_table, Numbers, Op, Refusal, Table, CLASH, EARLY, HOLDS_PER_OP, MANY};
 use crate::judge::{MOST_OPS, NUMBERS_PER_OP, OP_LENGTHS, ORDER, RACE, RANGE, SHORT, SIZE};
 use crate::walks::period;
+
+/// What all of these have in common.
+const COMMON: &str = "with a hold";
 
 // ---- tables -------------------------------------------------------------
 
@@ -489,7 +493,7 @@ impl Holds {
     }
 
     /// Every kind with its counts: as bytes and as numbers, where it can be met so.
-    fn all(&self) -> Vec<(&'static str, [Option<u64>; 2])> {
+    fn all(&self) -> Vec<Kind> {
         let tables = OF_TABLES.iter().zip(&self.tables);
         let tables = tables.map(|((name, _), counts)| (*name, counts.map(Some)));
         let fields = OF_FIELDS.iter().zip(&self.fields);
@@ -503,20 +507,11 @@ impl Holds {
 
     /// A line for each kind.
     pub fn print(&self) {
-        println!("{:<36}{:>8}{:>8}", "with a hold", "bytes", "numbers");
-        for (name, counts) in self.all() {
-            let [bytes, numbers] = counts.map(|it| it.map_or(String::new(), |it| it.to_string()));
-            let line = format!("{:<36}{:>8}{:>8}", name, bytes, numbers);
-            println!("{}", line.trim_end());
-        }
+        counts::print(COMMON, &self.all());
     }
 
     /// The kinds that were not met.
     pub fn missed(&self) -> Vec<String> {
-        let all = self.all().into_iter();
-        let missed = all.filter(|(_, counts)| counts.contains(&Some(0)));
-        missed
-            .map(|(name, _)| format!("with a hold, never met: {}", name))
-            .collect()
+        counts::missed(COMMON, &self.all())
     }
 }

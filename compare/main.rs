@@ -28,6 +28,7 @@ mod answers;
 mod asking;
 mod blamed;
 mod bytewise;
+mod counts;
 mod deciders;
 mod examples;
 mod findings;

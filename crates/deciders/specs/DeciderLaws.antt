@@ -1,6 +1,6 @@
 -- Laws of the decider's field and of a decider that is handed over: each outcome, and the table that holds who was named.
 -- Assumes nothing.
-use Prim.Native.Nat.{ℕ, _+_, _*_, _<_, _≤_}
+use Prim.Native.Nat.{ℕ, _+_, _<_, _≤_}
 use mathlib.Core.Path.{_≡_, refl, sym, ap, _∙_}
 use mathlib.Core.List.{List}
 use native.Mathlib.Omega.{arith}
@@ -11,7 +11,7 @@ use Rattle.rules.specs.Table as rules
 use Rattle.rules.specs.Table.{nobody, decides, nops}
 use Rattle.rules.specs.Verdicts.{accepted, refused, SHORT, ORDER, RANGE, _then_}
 use Rattle.rules.specs.Bytes.{num8}
-use Rattle.rules.specs.Judge.{ranged, header, fieldTest, deciderWrong, withDecider, opsPlace, opsEnd, nothingDue, deciderAt, deciderTest}
+use Rattle.rules.specs.Judge.{ranged, header, fieldTest, deciderWrong, withDecider, opsEnd, nothingDue, deciderAt, deciderTest}
 use Rattle.theory.proofs.Verdicts.{passes, refuses, then-accepts, then-refuses, then-first}
 use Rattle.theory.proofs.Ranges.{ranged-yes, ranged-no}
 use Rattle.theory.proofs.Judging.{both, field-passed, decider-row, nothing-row}

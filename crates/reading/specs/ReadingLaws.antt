@@ -9,20 +9,18 @@ use lib.Dec.{leb}
 use lib.ListN.{length, length-append}
 use borrow.Author.Tests.{leb-true, leb-false}
 use Rattle.rules.specs.Table as rules
-use Rattle.rules.specs.Verdicts.{Verdict, accepted, refused, RANGE, _then_, onwards, more}
+use Rattle.rules.specs.Verdicts.{Verdict, accepted, refused, _then_, onwards, more}
 use Rattle.rules.specs.Bytes.{num8, heldAt, opAt}
 use Rattle.rules.specs.Judge.{repeatTest, headOf, withOps, opsPlace, opsDone, sizeAt, wrongAt, opsFrom}
-use Rattle.theory.proofs.Verdicts.{then-accepts, then-refuses, then-first, onwards-accepts}
-use Rattle.theory.proofs.Ranges.{ranged-yes, ranged-no}
+use Rattle.theory.proofs.Verdicts.{then-first, onwards-accepts}
 use Rattle.theory.proofs.Says.{Known, holds, fails, known, clash-bool}
 use Rattle.theory.proofs.Judging.{done-end}
 use Rattle.theory.proofs.Bytes.{no-field}
 use Rattle.fields.specs.declared.Refusal.{Refusal}
 use Rattle.fields.specs.declared.Verdict.the-variants.{Accepted}
 use Rattle.fields.specs.Verdicts.{refusalOf}
-use Rattle.fields.specs.RefusalLaws.{then-refusal, onwards-refusal}
-use Rattle.fields.specs.Fields.{repeatOf}
-use Rattle.fields.specs.FieldLaws.{repeat-split, repeat-whole, from-next}
+use Rattle.fields.specs.RefusalLaws.{onwards-refusal}
+use Rattle.fields.specs.FieldLaws.{repeat-whole, from-next}
 use Rattle.table.specs.declared.Op.{Op}
 use Rattle.table.specs.declared.Table.{Table}
 use Rattle.table.specs.Tables.{opOf, tableIn, withOp, JudgedAs}

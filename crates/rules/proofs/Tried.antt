@@ -14,12 +14,12 @@ use lib.Pow.{pow-mono}
 use lib.ListN.{length, getD, take, replicate}
 use borrow.Author.Tests.{eqb-true}
 use Rattle.rules.specs.Sets.{has, In, Share, Within, Overlap}
-use Rattle.rules.specs.Table.{Op, nobody, decides, Table, noOp, op, followers, Clash, Contest, Race, Always, DecidedBy, Decided, Accepted}
+use Rattle.rules.specs.Table.{Op, nobody, decides, Table, noOp, op, followers, Clash, Contest, Race, Always, DecidedBy, Decided, OpOk, Accepted}
 use Rattle.rules.specs.Runs.{mode, IsRun, Runs, plainStart, plainEnd, Source, BoardsRightAt, ValuesRightAt, Right, spaced, IsPeriod}
 use Rattle.rules.specs.Better.{OpBetter, Better}
 use Rattle.rules.specs.Rows.{ticks, replyOf, startsOf, margin}
 use Rattle.rules.specs.Verdicts.{Verdict, accepted, refused, Test, _then_}
-use Rattle.rules.specs.Bytes.{tableBytes, longestTable, farthest, joined, replyBytes, startsBytes}
+use Rattle.rules.specs.Bytes.{opBytes, opAt, tableBytes, longestTable, farthest, joined, replyBytes, startsBytes}
 use Rattle.rules.specs.Judge.{opsFrom, withDecider, judge, opsOfNumbers, judgeNumbers, judgeReply}
 use Rattle.rules.specs.Text.{replyText, textOf, yesNoLine, marginLine, startsText}
 use Rattle.rules.specs.Words.{foldAsked, boardsAsked, valuesAsked, marginAsked, unfoldAsked, nothingAsked, questionOf, askable}
@@ -958,6 +958,8 @@ fields-20 =
     -- "SIZE now admits 18 and 20"; the length before a value that is cut; a field that is cut by a byte, and by two
     ∷ continued 22 (4 ∷ 0 ∷ 19 ∷ [])
     ∷ continued 22 (4 ∷ 0 ∷ 21 ∷ [])
+    ∷ continued 22 (4 ∷ 0 ∷ 17 ∷ [])
+    ∷ continued 22 (4 ∷ 0 ∷ 22 ∷ [])
     ∷ continued 22 (4 ∷ 1 ∷ 20 ∷ [])
     ∷ continued 22 (4 ∷ 0 ∷ 20 ∷ [])
     ∷ continued 22 (4 ∷ 0 ∷ 20 ∷ replicate 19 0)
@@ -971,7 +973,7 @@ fields-20 =
     ∷ second (held 5 1 1 1 0 0 0)
     ∷ second (opn 5 1 0 2 2 0)
     ∷ second (opn 5 1 1 0 0 0)
-    -- the field of the decider behind it; the 20-byte field behind one of 18, and a 33rd's place is by both
+    -- the field of the decider behind it; the 20-byte field behind one of 18
     ∷ tried (withDecider (oneMode 5 1 0 (held 1 3 1 1 0 0 1 ∷ [])) (decides 1))
     ∷ tried (oneMode 9 1 1 (opn 1 3 1 0 0 1 ∷ held 5 1 9 1 0 0 1 ∷ []))
     ∷ []
@@ -980,7 +982,7 @@ fields-20-told : fields-20
     ≡ (good ∷ good ∷ replicate 3 (range 22 29))
     ++ replicate 4 (range 22 27)
     ++ (range 22 29 ∷ range 22 27 ∷ good ∷ [])
-    ++ (replicate 3 (refused 3 22 0) ++ replicate 3 (refused 1 22 0))
+    ++ (replicate 5 (refused 3 22 0) ++ replicate 3 (refused 1 22 0))
     ++ map (range 45) (50 ∷ 52 ∷ 54 ∷ 56 ∷ 60 ∷ 64 ∷ 52 ∷ 62 ∷ [])
     ++ (range 45 48 ∷ range 43 50 ∷ [])
 unfolding fields-20
@@ -993,6 +995,7 @@ holds-handed =
     settled one-op (0 ∷ 65536 ∷ [])
     ∷ settled one-op (1 ∷ 1 ∷ [])
     ∷ settled one-op (256 ∷ 1 ∷ [])
+    ∷ settled one-op (256 ∷ 2 ∷ [])
     ∷ settled one-op (1 ∷ 0 ∷ [])
     ∷ settled one-op (1 ∷ 2 ∷ [])
     ∷ settled one-op (1 ∷ 65537 ∷ [])
@@ -1017,12 +1020,23 @@ holds-handed =
     ∷ []
 
 holds-told : holds-handed
-    ≡ (good ∷ good ∷ good ∷ replicate 3 (range 22 29))
+    ≡ (good ∷ good ∷ good ∷ replicate 4 (range 22 29))
     ++ (range 22 25 ∷ range 22 27 ∷ [])
     ++ (replicate 6 (refused 1 22 0) ++ (refused 2 22 0 ∷ []))
     ++ (range 45 50 ∷ range 43 52 ∷ refused 1 45 0 ∷ refused 1 45 0 ∷ refused 5 45 0 ∷ refused 5 43 0 ∷ [])
 unfolding holds-handed
 holds-told = refl
+
+-- handed over with two modes, the first operation would be at 26: where there is none, and where numbers are missing
+two-modes-handed : handed 5 1 0 2 1 (1 ∷ 1 ∷ []) [] ∷ handed 5 1 0 2 1 (1 ∷ 1 ∷ []) (1 ∷ []) ∷ [] ≡ refused 2 26 0 ∷ refused 1 26 0 ∷ []
+unfolding handed
+two-modes-handed = refl
+
+-- the decider handed over behind an operation with a hold and one without
+decider-handed : judgeNumbers (record { len = 5; boards = 1; cells = 0; modes = 1; first = 1; follow = 1 ∷ []; ops = one-op ++ one-op; holds = 1 ∷ 1 ∷ 0 ∷ 0 ∷ []; mark = 1; decider = 2 })
+    ≡ refused 4 66 69
+unfolding judgeNumbers one-op
+decider-handed = refl
 
 -- a hold is read, and written exactly where it is marked; forms may be mixed
 k1-read : judge (k1-20 3 1) ≡ accepted (k1-held 1)
@@ -1041,9 +1055,13 @@ mixed-read : judge (tableBytes mixed) ≡ accepted mixed
 unfolding judge tableBytes mixed
 mixed-read = refl
 
+-- the same two steps in the other order
+abbrev good-last : Table
+good-last = oneMode 6 2 1 (opn 2 1 2 1 0 1 ∷ held 0 2 2 1 0 1 1 ∷ [])
+
 -- CLASH by both holds; neither RACE nor EARLY by any; on the tables of the bench
-settling-told : map tried (polarised 2 ∷ polarised-last 2 ∷ polarised 1 ∷ polarised-last 1 ∷ already-good ∷ good-next-cycle ∷ decides-settling ∷ [])
-    ≡ refused 6 0 1 ∷ refused 6 0 1 ∷ replicate 5 good
+settling-told : map tried (polarised 2 ∷ polarised-last 2 ∷ polarised 1 ∷ polarised-last 1 ∷ already-good ∷ good-last ∷ good-next-cycle ∷ decides-settling ∷ [])
+    ≡ refused 6 0 1 ∷ refused 6 0 1 ∷ replicate 6 good
 unfolding tried
 settling-told = refl
 
@@ -1055,8 +1073,52 @@ polarised-clash = (
   record { board = (0, refl, refl); mode = (0, refl, refl); lap = (omega arith, omega arith) },
 )
 
-good-no-race : Race (op already-good 0) (op already-good 1) → ⊥
-good-no-race x = omega (arith, x .lap .1)
+good-no-race : Race (op already-good 0) (op already-good 1) ⊎ Race (op good-last 0) (op good-last 1) → ⊥
+good-no-race (inl x) = omega (arith, x .lap .1)
+good-no-race (inr x) = omega (arith, x .lap .0)
+
+-- held to where the other starts, they do not clash
+polarised-no-clash : Clash (op (polarised 1) 0) (op (polarised 1) 1) ⊎ Clash (op (polarised-last 1) 0) (op (polarised-last 1) 1) → ⊥
+polarised-no-clash (inl x) = omega (arith, x .lap .1)
+polarised-no-clash (inr x) = omega (arith, x .lap .0)
+
+-- "start + duration + hold, which may not pass p": K1 with hold 0 and 1 is so, with hold 2 not; nor without a duration
+held-ok : (h : ℕ) → h ≤ 1 → OpOk (k1-held h) (op (k1-held h) 0)
+held-ok h x =
+    record {
+      lasts = omega arith;
+      fits = omega arith;
+      boards = record { some = omega arith; small = omega arith };
+      reads = omega arith;
+      writes = omega arith;
+      modes = record { some = omega arith; small = omega arith };
+    }
+
+held-past : OpOk (k1-held 2) (op (k1-held 2) 0) ⊎ OpOk k1 (held 1 0 3 1 0 0 1) → ⊥
+held-past (inl x) = omega (arith, x .fits)
+held-past (inr x) = omega (arith, x .lasts)
+
+-- what stands past the operations
+past-op : noOp ≡ opn 0 0 0 0 0 0
+past-op = refl
+
+-- each byte of a field of 18, and of 20
+whole-18 : List ℕ
+whole-18 = 4 ∷ 0 ∷ 18 ∷ 1 ∷ 2 ∷ 3 ∷ 4 ∷ 7 ∷ 8 ∷ 9 ∷ 10 ∷ 11 ∷ 12 ∷ 13 ∷ 14 ∷ 15 ∷ 16 ∷ 17 ∷ 18 ∷ 19 ∷ 20 ∷ []
+
+whole-20 : List ℕ
+whole-20 = 4 ∷ 0 ∷ 20 ∷ 1 ∷ 2 ∷ 3 ∷ 4 ∷ 5 ∷ 6 ∷ 7 ∷ 8 ∷ 9 ∷ 10 ∷ 11 ∷ 12 ∷ 13 ∷ 14 ∷ 15 ∷ 16 ∷ 17 ∷ 18 ∷ 19 ∷ 20 ∷ []
+
+whole-op : ℕ → Op
+whole-op h = held 258 772 h 1800 151653132 219025168 286397204
+
+whole-read : opAt whole-18 0 ∷ opAt whole-20 0 ∷ [] ≡ map whole-op (0 ∷ 1286 ∷ [])
+unfolding opAt whole-18 whole-20 whole-op
+whole-read = refl
+
+whole-written : map (λ (h : ℕ). opBytes (whole-op h)) (0 ∷ 1286 ∷ []) ≡ whole-18 ∷ whole-20 ∷ []
+unfolding opBytes whole-18 whole-20 whole-op
+whole-written = refl
 
 -- the margin is as it was
 held-margins : map (λ (q : ℕ). margin (k1-held 1) 0 0 1 q) (2 ∷ 3 ∷ 4 ∷ []) ≡ negsuc 0 ∷ pos 0 ∷ pos 1 ∷ []
@@ -1095,6 +1157,29 @@ good-source =
     go (suc zero) m x w h = absurd (false≢true w)
     go (suc (suc u)) m x w h = absurd (false≢true w)
 
+-- the last write is the one that ended last, though the board of an earlier one settles longer
+abbrev settles-longer : Table
+settles-longer = oneMode 9 3 1 (held 0 1 5 1 0 1 1 ∷ opn 2 1 2 0 1 1 ∷ opn 4 1 4 1 0 1 ∷ [])
+
+last-source : Source settles-longer (0 ∷ []) 0 (plainStart settles-longer 2 0) 1 0
+unfolding has
+last-source =
+    record {
+      runs = record { cycle = omega arith; isOp = omega arith; inMode = refl };
+      writes = refl;
+      before = omega arith;
+      last = go;
+    }
+  where
+    go : (u m : ℕ) → Runs settles-longer (0 ∷ []) m u → In 0 (op settles-longer u .writes) → plainEnd settles-longer u m ≤ plainStart settles-longer 2 0
+        → plainEnd settles-longer u m ≤ plainEnd settles-longer 1 0
+    go zero zero x w h = omega arith
+    go zero (suc m) x w h = absurd (omega (arith, x .cycle))
+    go (suc zero) zero x w h = omega arith
+    go (suc zero) (suc m) x w h = absurd (omega (arith, x .cycle))
+    go (suc (suc zero)) m x w h = absurd (false≢true w)
+    go (suc (suc (suc u))) m x w h = absurd (false≢true w)
+
 -- and it arrives by its duration, a cycle later
 good-values : ValuesRightAt good-next-cycle (spaced 4)
 unfolding ValuesRightAt
@@ -1113,8 +1198,11 @@ settling-decided = record { isOp = omega arith; always = both-modes decides-sett
     go (suc zero) h n = omega arith
     go (suc (suc i)) h n = absurd (omega arith)
 
-held-not : Better (k1-held 0) (k1-held 1) → ⊥
-held-not x = omega (arith, x .each 0 (omega arith) .hold)
+-- not better: a longer hold, also with a duration that is as much shorter; a longer duration with a hold that is as much shorter
+held-not : Better (k1-held 0) (k1-held 1) ⊎ (Better (k1-held 1) (oneMode 5 1 0 (held 1 2 2 1 0 0 1 ∷ [])) ⊎ Better (k1-held 1) (oneMode 5 1 0 (held 1 4 0 1 0 0 1 ∷ []))) → ⊥
+held-not (inl x) = omega (arith, x .each 0 (omega arith) .hold)
+held-not (inr (inl x)) = omega (arith, x .each 0 (omega arith) .hold)
+held-not (inr (inr x)) = omega (arith, x .each 0 (omega arith) .dur)
 
 held-better : Better (k1-held 1) (k1-held 0)
 held-better = record { len = refl; count = refl; each = less; firsts = λ m h. h; turns = λ a m h. h; decider = refl }

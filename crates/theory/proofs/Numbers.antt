@@ -12,11 +12,11 @@ use lib.Dec.{eqb}
 use lib.ListN.{length, getD, take, drop, length-append, length-drop}
 use lib.Pow.{pow-mono}
 use lib.Seq.{drop-drop}
-use borrow.Author.Tests.{le-leb, lt-leb, le-ltb, lt-ltb, eq-eqb, ne-eqb}
+use borrow.Author.Tests.{le-leb, lt-leb, le-ltb, eq-eqb, ne-eqb}
 use Rattle.rules.specs.Table.{Op, Decider, nobody, decides, Table, noOp, nops, op, SetOf, Accepted}
 use Rattle.rules.specs.Verdicts.{Verdict, accepted, refused, SHORT, SIZE, ORDER, MANY, RANGE, Test, refuseIf, _then_, onwards, more}
 use Rattle.rules.specs.Bytes.{num8, num16, num32, words, be16, be32, joined, opSize, opForm, settles, opBytes, headBytes, deciderBytes, tableBytes, opAt}
-use Rattle.rules.specs.Judge.{needed, notMany, ranged, fieldTest, repeatTest, fieldsFrom, lenWrong, countsWrong, setsWrong, opWrong, deciderWrong, judgeWhole, headOf, withOps, withDecider, opsPlace, opsSize, opsEnd, opsDone, sizeAt, wrongAt, opsFrom, deciderAt, deciderTest, judgeBehind, judge, Numbers, markedOf, opOfNumbers, headOfNumbers, deciderOf, noneLeft, numbersTest, opsOfNumbers, judgeDecider, judgeNumbers}
+use Rattle.rules.specs.Judge.{needed, notMany, ranged, fieldTest, fieldsFrom, lenWrong, countsWrong, setsWrong, opWrong, deciderWrong, judgeWhole, headOf, withOps, withDecider, opsPlace, opsSize, opsEnd, opsDone, sizeAt, wrongAt, opsFrom, deciderAt, deciderTest, judgeBehind, judge, Numbers, markedOf, opOfNumbers, headOfNumbers, deciderOf, noneLeft, numbersTest, opsOfNumbers, judgeDecider, judgeNumbers}
 use Rattle.theory.specs.Holds.{Plain, stepWrong}
 use Rattle.theory.specs.Numbers.{opNumbers, holdNumbers, markOf, numberOf, numbersOf, Cut, cutBytes, opsBytes, numbersBytes, CountsFit, SetsFit, OpFits, opAmong, markAmong, placeAmong, NumbersFit}
 use Rattle.theory.proofs.Says.{says-or, says-ltb}

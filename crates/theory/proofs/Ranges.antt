@@ -192,22 +192,16 @@ pub decider-high : (n d : ℕ) → n ≤ d → deciderWrong n (decides d) ≡ 3
 unfolding deciderWrong
 decider-high n d h = rw (le-ltb d n h)
 
-module _ (T : Table) (held : Bool) (o : Op) where
-  -- a start too large for its field
-  pub op-start : 65536 ≤ o .start → opWrong T held o ≡ 3
+module _ (T : Table) (held : Bool) (o : Op) (fits : o .start < 65536) where
+  -- "a duration d of at least 1"
+  pub op-no-time : o .dur < 1 → opWrong T held o ≡ 5
   unfolding opWrong
-  op-start h = rw (le-ltb (o .start) 65536 h)
+  op-no-time h = rw (lt-ltb (o .start) 65536 fits, lt-leb 1 (o .dur) h)
 
-  module _ (fits : o .start < 65536) where
-    -- "a duration d of at least 1"
-    pub op-no-time : o .dur < 1 → opWrong T held o ≡ 5
-    unfolding opWrong
-    op-no-time h = rw (lt-ltb (o .start) 65536 fits, lt-leb 1 (o .dur) h)
-
-    -- "an operation that ends after p blames its duration", whatever its hold
-    pub op-late : 1 ≤ o .dur → T .len < o .start + o .dur → opWrong T held o ≡ 5
-    unfolding opWrong
-    op-late h l = rw (lt-ltb (o .start) 65536 fits, le-leb 1 (o .dur) h, lt-leb (o .start + o .dur) (T .len) l)
+  -- "an operation that ends after p blames its duration", whatever its hold
+  pub op-late : 1 ≤ o .dur → T .len < o .start + o .dur → opWrong T held o ≡ 5
+  unfolding opWrong
+  op-late h l = rw (lt-ltb (o .start) 65536 fits, le-leb 1 (o .dur) h, lt-leb (o .start + o .dur) (T .len) l)
 
 module _ (T : Table) (o : Op) (fits : o .start < 65536) (lasts : 1 ≤ o .dur) (ends : o .start + o .dur ≤ T .len) where
   -- document 02, No. 9: "a 20-byte field with hold 0 is RANGE and blames the hold"

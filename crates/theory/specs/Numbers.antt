@@ -6,7 +6,7 @@ use mathlib.Core.Bool.{Bool, cond}
 use mathlib.Core.List.{List, [], _∷_, _++_}
 use lib.ListN.{length, getD, drop}
 use Rattle.rules.specs.Table.{Op, Decider, nobody, decides, Table}
-use Rattle.rules.specs.Bytes.{be16, be32, joined, opSize, opForm, settles, headBytes, deciderBytes}
+use Rattle.rules.specs.Bytes.{be16, joined, opSize, opForm, settles, headBytes, deciderBytes}
 use Rattle.rules.specs.Judge.{Numbers, markedOf, opOfNumbers, headOfNumbers, deciderOf}
 
 -- "six for each operation, in layout order"

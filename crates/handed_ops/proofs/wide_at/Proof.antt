@@ -1,6 +1,5 @@
 -- Each number is at its place, and the hold is there where it is marked.
 -- Assumes nothing.
-use mathlib.Core.Path.{_≡_, _∙_}
 use denote.Ref.{now}
 use borrow.Author.Needs.{needs}
 use Rattle.handed_ops.specs.OpsLaws.{mark-read, op-read}

@@ -1,11 +1,10 @@
 -- The tests in the order of the definition; the dates are compared without a sum that could wrap.
 -- Assumes nothing.
 use Prim.Native.Nat.{_+_, _<_, _≤_}
-use mathlib.Core.Path.{_≡_, sym, _∙_}
+use mathlib.Core.Path.{_≡_, sym}
 use mathlib.Core.Bool.{true, false}
 use native.Mathlib.Omega.{arith}
 use borrow.Author.Tests.{not-true, not-false}
-use Rattle.ranges.specs.Ranges.{wideOf, datesOf}
 use Rattle.ranges.specs.RangeLaws.{dates-start, dates-none, dates-late, dates-plain, dates-no-hold, dates-past, dates-held}
 use Rattle.ranges.proofs.dates_wrong.Statement.{statement}
 use Rattle.ranges.proofs.dates_wrong.Tie as tie

@@ -1,6 +1,6 @@
 -- The tests in the order of the definition, each at its place behind the first.
 -- Assumes nothing.
-use Prim.Native.Nat.{_+_, _^_, _≤_}
+use Prim.Native.Nat.{_^_}
 use mathlib.Core.Path.{_≡_, sym, _∙_}
 use mathlib.Core.Bool.{true, false}
 use native.Mathlib.Omega.{arith}

@@ -1,11 +1,11 @@
 -- The dates decide where one of them is wrong, and the sets where none is.
 -- Assumes nothing.
-use Prim.Native.Nat.{ℕ, _≤_}
+use Prim.Native.Nat.{ℕ}
 use mathlib.Core.Path.{_≡_, refl, sym, ap, _∙_}
 use native.Mathlib.Omega.{arith}
 use borrow.Author.Needs.{needs}
 use Rattle.rules.specs.Table.{Op}
-use Rattle.ranges.specs.Ranges.{wideOf, counted, datesOf, usedAt, setsOf}
+use Rattle.ranges.specs.Ranges.{wideOf, counted, datesOf, setsOf}
 use Rattle.ranges.specs.RangeLaws.{op-dates, op-sets}
 use Rattle.ranges.proofs.wide_wrong.Statement.{statement}
 use Rattle.ranges.proofs.wide_wrong.Tie as tie

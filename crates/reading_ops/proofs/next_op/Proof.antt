@@ -1,9 +1,7 @@
 -- The tests before the ranges, by the form that the field has; then the ranges of its numbers; then the operation that has them.
 -- Assumes nothing.
-use Prim.Native.Nat.{_+_, _≤_}
 use mathlib.Core.Path.{_≡_, sym, ap, _∙_}
 use native.Mathlib.Omega.{arith}
-use lib.ListN.{length}
 use denote.Ref.{now}
 use borrow.Author.Needs.{needs}
 use Rattle.rules.specs.Verdicts.{accepted}
