@@ -1,6 +1,6 @@
 -- An operation that is stored is there, and the others stay; the columns of an accepted table are short.
 -- Assumes nothing.
-use Prim.Native.Nat.{ℕ, _+_, _*_, _<_, _≤_}
+use Prim.Native.Nat.{ℕ, _+_, _-_, _*_, _<_, _≤_}
 use mathlib.Core.Path.{_≡_, refl, sym, ap, subst⁻¹, _∙_}
 use mathlib.Core.List.{List, map}
 use native.Mathlib.Decide.{decLt}
@@ -13,7 +13,7 @@ use Rattle.theory.proofs.Order.{Cmp, cmp}
 use Rattle.theory.proofs.Sets.{in-none}
 use Rattle.table.specs.declared.Op as code
 use Rattle.table.specs.Tables.{opOf, blankOp}
-use Rattle.columns.specs.Columns.{opBy, opPut, Columns, Short}
+use Rattle.columns.specs.Columns.{opBy, opPut, Settled, Columns, Short}
 
 -- ---- one operation stored
 
@@ -38,7 +38,7 @@ module _ (cols : List ℕ) (k : ℕ) (o : Op) where
 
   -- what is stored into the last column, the last two and so on changes no place in front of them
   past6 : (p : ℕ) → p < 192 + k → getD (opPut cols k o) p 0 ≡ getD c6 p 0
-  past6 p h = getD-set-other c6 (192 + k) p (o .hold) 0 (λ e. omega arith)
+  past6 p h = getD-set-other c6 (192 + k) p (heldTo o) 0 (λ e. omega arith)
 
   past5 : (p : ℕ) → p < 160 + k → getD (opPut cols k o) p 0 ≡ getD c5 p 0
   past5 p h = past6 p (omega arith) ∙ getD-set-other c5 (160 + k) p (o .modes) 0 (λ e. omega arith)
@@ -55,6 +55,13 @@ module _ (cols : List ℕ) (k : ℕ) (o : Op) where
   past1 : (p : ℕ) → p < 32 + k → getD (opPut cols k o) p 0 ≡ getD c1 p 0
   past1 p h = past2 p (omega arith) ∙ getD-set-other c1 (32 + k) p (o .dur) 0 (λ e. omega arith)
 
+  -- the date at which it lets go is there, and says how long it holds behind its end
+  date-there : length cols ≡ 224 → k < 32 → getD (opPut cols k o) (192 + k) 0 ≡ heldTo o
+  date-there long h = getD-set-same c6 (192 + k) (heldTo o) 0 (simp length-set (omega arith))
+
+  held-for : heldTo o - (o .start + o .dur) ≡ o .hold
+  held-for = omega arith
+
   with-there : length cols ≡ 224 → k < 32 → opBy (opPut cols k o) k ≡ o
   with-there long h =
       rw (
@@ -64,14 +71,15 @@ module _ (cols : List ℕ) (k : ℕ) (o : Op) where
         past4 (96 + k) (omega arith) ∙ getD-set-same c3 (96 + k) (o .reads) 0 (simp length-set (omega arith)),
         past5 (128 + k) (omega arith) ∙ getD-set-same c4 (128 + k) (o .writes) 0 (simp length-set (omega arith)),
         past6 (160 + k) (omega arith) ∙ getD-set-same c5 (160 + k) (o .modes) 0 (simp length-set (omega arith)),
-        getD-set-same c6 (192 + k) (o .hold) 0 (simp length-set (omega arith)),
+        date-there long h,
+        held-for,
       )
       refl
 
   -- a place that is none of its seven stays
   stays : (p : ℕ) → ((m : ℕ) → p ≡ 32 * m + k → ⊥) → getD (opPut cols k o) p 0 ≡ getD cols p 0
   stays p e =
-      getD-set-other c6 (192 + k) p (o .hold) 0 (λ x. e 6 (omega arith))
+      getD-set-other c6 (192 + k) p (heldTo o) 0 (λ x. e 6 (omega arith))
       ∙ getD-set-other c5 (160 + k) p (o .modes) 0 (λ x. e 5 (omega arith))
       ∙ getD-set-other c4 (128 + k) p (o .writes) 0 (λ x. e 4 (omega arith))
       ∙ getD-set-other c3 (96 + k) p (o .reads) 0 (λ x. e 3 (omega arith))
@@ -99,12 +107,16 @@ pub record Filled (T : Table) (k : ℕ) (cols : List ℕ) : Type 0 where
   pub long : length cols ≡ 224
   pub there : (i : ℕ) → i < k → opBy cols i ≡ op T i
   pub rest : (i : ℕ) → k ≤ i → i < 32 → opBy cols i ≡ noOp
+  pub settled : Settled cols
 
 pub filled-none : (T : Table) → Filled T 0 (replicate 224 0)
-filled-none T = record { long = refl; there = λ i l. absurd (omega arith); rest = λ i l m. nothing i m }
+filled-none T = record { long = refl; there = λ i l. absurd (omega arith); rest = λ i l m. nothing i m; settled = none }
   where
     empty : (p : ℕ) → p < 224 → getD {A = ℕ} (replicate 224 0) p 0 ≡ 0
     empty p h = getD-replicate {A = ℕ} 224 p 0 0 h
+
+    none : Settled (replicate 224 0)
+    none i h = omega (arith, empty i (omega arith), empty (32 + i) (omega arith))
 
     nothing : (i : ℕ) → i < 32 → opBy (replicate 224 0) i ≡ noOp
     nothing i h =
@@ -134,15 +146,30 @@ filled-more {T} {k} {cols} o h e f =
       long = simp length-set (f .long);
       there = λ i l. there i l (cmp i k);
       rest = λ i l m. with-other cols k o i m h (λ x. omega arith) ∙ f .rest i (omega arith) m;
+      settled = λ i l. settled i l (cmp i k);
     }
   where
+    other : (i : ℕ) → i < 32 → (i ≡ k → ⊥) → endOf (opBy (opPut cols k o) i) ≤ getD (opPut cols k o) (192 + i) 0
+    other i l n =
+        let same = ap endOf (with-other cols k o i l h n) in
+        let date = stays cols k o (192 + i) (λ m x. n (omega arith)) in
+        omega (arith, same, date, f .settled i l)
+
+    settled : (i : ℕ) → i < 32 → Cmp i k → endOf (opBy (opPut cols k o) i) ≤ getD (opPut cols k o) (192 + i) 0
+    settled i l (Cmp.less m) = other i l (λ x. omega arith)
+    settled i l (Cmp.same m) =
+        rw m
+        (let same = ap endOf (with-there cols k o (f .long) h) in
+        omega (arith, same, date-there cols k o (f .long) h))
+    settled i l (Cmp.more m) = other i l (λ x. omega arith)
+
     there : (i : ℕ) → i < k + 1 → Cmp i k → opBy (opPut cols k o) i ≡ op T i
     there i l (Cmp.less m) = with-other cols k o i (omega arith) h (λ x. omega arith) ∙ f .there i m
     there i l (Cmp.same m) = rw m (with-there cols k o (f .long) h ∙ e)
     there i l (Cmp.more m) = absurd (omega arith)
 
 pub filled-all : {T : Table} {cols : List ℕ} → Filled T (nops T) cols → Columns T cols
-filled-all {T} {cols} f = record { each = λ i h. go i h (decLt i (nops T)) }
+filled-all {T} {cols} f = record { each = λ i h. go i h (decLt i (nops T)); settled = f .settled }
   where
     go : (i : ℕ) → i < 32 → Dec (i < nops T) → opBy cols i ≡ op T i
     go i h (yes l) = f .there i l
@@ -176,4 +203,5 @@ module _ {T : Table} {cols : List ℕ} (ok : Accepted T) (c : Columns T cols) wh
       record {
         ends = λ i h. subst⁻¹ (λ (o : Op). endOf o ≤ 1000) (c .each i h) (omega (arith, inside i, ok .len-high));
         leaves = λ i h. omega (arith, leaves-by i h, ok .len-high);
+        settled = c .settled;
       }

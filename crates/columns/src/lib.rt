@@ -5,7 +5,7 @@ ghost use Prim.Native.Nat.{_<_, _≤_};
 ghost use lib.ListN.{length, take};
 ghost use Rattle.rules.specs.Table.{Table, endOf, heldTo};
 ghost use Rattle.table.specs.Tables.{opOf};
-ghost use Rattle.columns.specs.Columns.{opBy, opPut, Short, Columns};
+ghost use Rattle.columns.specs.Columns.{opBy, opPut, Short, HeldShort, Columns};
 use table::Op;
 
 // ---- one number of an operation
@@ -44,15 +44,14 @@ pub fn held(cols: &[u32; 224], i: usize) -> u32
     requires { ⌜ (i < 32) × Short (now cols) ⌝ }
     ensures { λ r. ⌜ r ≡ heldTo (opBy (now (cols .entry)) i) ⌝ }
 {
-    let settled = cols[32 + i] + cols[192 + i];
-    cols[i] + settled
+    cols[192 + i]
 }
 
 // ---- the columns of a table
 
 // One operation, in its place.
 fn put_op(cols: &mut [u32; 224], k: usize, o: Op)
-    requires { ⌜ k < 32 ⌝ }
+    requires { ⌜ (k < 32) × (heldTo (opOf o) ≤ 1000) ⌝ }
     ensures { λ _. ⌜ now (cols .exit) ≡ opPut (now (cols .entry)) k (opOf o) ⌝ }
 {
     cols[k] = o.start;
@@ -61,12 +60,12 @@ fn put_op(cols: &mut [u32; 224], k: usize, o: Op)
     cols[96 + k] = o.reads;
     cols[128 + k] = o.writes;
     cols[160 + k] = o.modes;
-    cols[192 + k] = o.hold;
+    cols[192 + k] = o.start + o.dur + o.hold;
 }
 
 // All of them.
 pub fn columns(ops: [Op; 32], count: usize) -> [u32; 224]
-    requires { ⌜ (length ops ≡ 32) × (count ≤ 32) ⌝ }
+    requires { ⌜ (length ops ≡ 32) × (count ≤ 32) × HeldShort ops count ⌝ }
     ensures { λ r. ⌜ ((T : Table) → T .ops ≡ map opOf (take count ops) → Columns T r) ⌝ }
 {
     let mut cols = [0u32; 224];

@@ -33,20 +33,20 @@ pub fn clash(o: Op, u: Op) -> bool
     )
 }
 
-// Two operations race: they share a mode, overlap, and one writes a cell that the other reads or writes.
+// Two operations race: they share a mode, overlap, and one writes a cell that the other reads or writes. The dates are looked at first: few overlap.
 pub fn race(o: Op, u: Op) -> bool
     ensures { λ r. ⌜ r ≡ races (opOf o) (opOf u) ⌝ }
 {
-    let mode = sets::meets(o.modes, u.modes);
-    if !mode {
-        return false;
-    }
     if !overlap(
         o.start as u64,
         table::end_of(o),
         u.start as u64,
         table::end_of(u),
     ) {
+        return false;
+    }
+    let mode = sets::meets(o.modes, u.modes);
+    if !mode {
         return false;
     }
     if sets::meets(o.writes, u.reads | u.writes) {

@@ -16,8 +16,8 @@ use Rattle.theory.proofs.Says.{Says, clash-bool}
 use Rattle.theory.proofs.Tests.{says-boards-right, says-values-right}
 use Rattle.table.specs.declared.Table as code
 use Rattle.table.specs.Tables.{opIn, tableOf, blankOp, padded, Good}
-use Rattle.table.specs.TableLaws.{good-few}
-use Rattle.columns.specs.Columns.{Columns, Short}
+use Rattle.table.specs.TableLaws.{good-few, good-op}
+use Rattle.columns.specs.Columns.{HeldShort, Columns, Short}
 use Rattle.columns.specs.ColumnLaws.{columns-short, leaves-by}
 use Rattle.turns.specs.Turns.{TurnsOf}
 use Rattle.turns.specs.TurnLaws.{good-via}
@@ -69,11 +69,12 @@ words-32 t good =
     ∙ length-padded 32 0 (tableOf t .follow) (omega (arith, good .accepted .words, good .accepted .modes-high))
 
 -- what its columns ask, and that they are its own
-pub columns-asked : (t : code.Table) → Good t → (length (t .ops) ≡ 32) × (t .count ≤ 32)
+pub columns-asked : (t : code.Table) → Good t → (length (t .ops) ≡ 32) × (t .count ≤ 32) × HeldShort (t .ops) (t .count)
 columns-asked t good = (
   ap (λ (u : code.Table). length (u .ops)) (good .tidy)
       ∙ length-padded 32 blankOp (map opIn (tableOf t .ops)) (omega (arith, length-map (tableOf t .ops) opIn, good .accepted .ops-high)),
   good-few t good,
+  λ i h. omega (arith, good-op t good i h .fits, good .accepted .len-high),
 )
 
 pub columns-found : (t : code.Table) {cols : List ℕ} → ((T : Table) → T .ops ≡ tableOf t .ops → Columns T cols) → Columns (tableOf t) cols
