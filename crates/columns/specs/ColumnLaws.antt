@@ -13,7 +13,7 @@ use Rattle.theory.proofs.Order.{Cmp, cmp}
 use Rattle.theory.proofs.Sets.{in-none}
 use Rattle.table.specs.declared.Op as code
 use Rattle.table.specs.Tables.{opOf, blankOp}
-use Rattle.columns.specs.Columns.{opBy, opPut, Settled, Columns, Short}
+use Rattle.columns.specs.Columns.{opBy, opPut, InOrder, Settled, Columns, Short}
 
 -- ---- one operation stored
 
@@ -22,7 +22,7 @@ module _ (cols : List ℕ) (k : ℕ) (o : Op) where
   c1 = set cols k (o .start)
 
   abbrev c2 : List ℕ
-  c2 = set c1 (32 + k) (o .dur)
+  c2 = set c1 (32 + k) (endOf o)
 
   abbrev c3 : List ℕ
   c3 = set c2 (64 + k) (o .boards)
@@ -53,25 +53,36 @@ module _ (cols : List ℕ) (k : ℕ) (o : Op) where
   past2 p h = past3 p (omega arith) ∙ getD-set-other c2 (64 + k) p (o .boards) 0 (λ e. omega arith)
 
   past1 : (p : ℕ) → p < 32 + k → getD (opPut cols k o) p 0 ≡ getD c1 p 0
-  past1 p h = past2 p (omega arith) ∙ getD-set-other c1 (32 + k) p (o .dur) 0 (λ e. omega arith)
+  past1 p h = past2 p (omega arith) ∙ getD-set-other c1 (32 + k) p (endOf o) 0 (λ e. omega arith)
 
-  -- the date at which it lets go is there, and says how long it holds behind its end
-  date-there : length cols ≡ 224 → k < 32 → getD (opPut cols k o) (192 + k) 0 ≡ heldTo o
-  date-there long h = getD-set-same c6 (192 + k) (heldTo o) 0 (simp length-set (omega arith))
+  -- its three dates are there, and say how long it lasts, and how long its boards settle
+  module _ (long : length cols ≡ 224) (h : k < 32) where
+    start-there : getD (opPut cols k o) k 0 ≡ o .start
+    start-there = past1 k (omega arith) ∙ getD-set-same cols k (o .start) 0 (omega arith)
 
-  held-for : heldTo o - (o .start + o .dur) ≡ o .hold
+    end-there : getD (opPut cols k o) (32 + k) 0 ≡ endOf o
+    end-there = past2 (32 + k) (omega arith) ∙ getD-set-same c1 (32 + k) (endOf o) 0 (simp length-set (omega arith))
+
+    leave-there : getD (opPut cols k o) (192 + k) 0 ≡ heldTo o
+    leave-there = getD-set-same c6 (192 + k) (heldTo o) 0 (simp length-set (omega arith))
+
+  lasts-for : endOf o - o .start ≡ o .dur
+  lasts-for = omega arith
+
+  held-for : heldTo o - endOf o ≡ o .hold
   held-for = omega arith
 
   with-there : length cols ≡ 224 → k < 32 → opBy (opPut cols k o) k ≡ o
   with-there long h =
       rw (
-        past1 k (omega arith) ∙ getD-set-same cols k (o .start) 0 (omega arith),
-        past2 (32 + k) (omega arith) ∙ getD-set-same c1 (32 + k) (o .dur) 0 (simp length-set (omega arith)),
+        start-there long h,
+        end-there long h,
         past3 (64 + k) (omega arith) ∙ getD-set-same c2 (64 + k) (o .boards) 0 (simp length-set (omega arith)),
         past4 (96 + k) (omega arith) ∙ getD-set-same c3 (96 + k) (o .reads) 0 (simp length-set (omega arith)),
         past5 (128 + k) (omega arith) ∙ getD-set-same c4 (128 + k) (o .writes) 0 (simp length-set (omega arith)),
         past6 (160 + k) (omega arith) ∙ getD-set-same c5 (160 + k) (o .modes) 0 (simp length-set (omega arith)),
-        date-there long h,
+        leave-there long h,
+        lasts-for,
         held-for,
       )
       refl
@@ -84,7 +95,7 @@ module _ (cols : List ℕ) (k : ℕ) (o : Op) where
       ∙ getD-set-other c4 (128 + k) p (o .writes) 0 (λ x. e 4 (omega arith))
       ∙ getD-set-other c3 (96 + k) p (o .reads) 0 (λ x. e 3 (omega arith))
       ∙ getD-set-other c2 (64 + k) p (o .boards) 0 (λ x. e 2 (omega arith))
-      ∙ getD-set-other c1 (32 + k) p (o .dur) 0 (λ x. e 1 (omega arith))
+      ∙ getD-set-other c1 (32 + k) p (endOf o) 0 (λ x. e 1 (omega arith))
       ∙ getD-set-other cols k p (o .start) 0 (λ x. e 0 (omega arith))
 
   with-other : (i : ℕ) → i < 32 → k < 32 → (i ≡ k → ⊥) → opBy (opPut cols k o) i ≡ opBy cols i
@@ -116,7 +127,10 @@ filled-none T = record { long = refl; there = λ i l. absurd (omega arith); rest
     empty p h = getD-replicate {A = ℕ} 224 p 0 0 h
 
     none : Settled (replicate 224 0)
-    none i h = omega (arith, empty i (omega arith), empty (32 + i) (omega arith))
+    none i h =
+        let at = empty i (omega arith) in
+        let end = empty (32 + i) (omega arith) in
+        record { lasts = omega (arith, at, end); settles = omega (arith, end) }
 
     nothing : (i : ℕ) → i < 32 → opBy (replicate 224 0) i ≡ noOp
     nothing i h =
@@ -149,18 +163,16 @@ filled-more {T} {k} {cols} o h e f =
       settled = λ i l. settled i l (cmp i k);
     }
   where
-    other : (i : ℕ) → i < 32 → (i ≡ k → ⊥) → endOf (opBy (opPut cols k o) i) ≤ getD (opPut cols k o) (192 + i) 0
+    other : (i : ℕ) → i < 32 → (i ≡ k → ⊥) → InOrder (getD (opPut cols k o) i 0) (getD (opPut cols k o) (32 + i) 0) (getD (opPut cols k o) (192 + i) 0)
     other i l n =
-        let same = ap endOf (with-other cols k o i l h n) in
-        let date = stays cols k o (192 + i) (λ m x. n (omega arith)) in
-        omega (arith, same, date, f .settled i l)
+        rw (stays cols k o i (λ m x. n (omega arith)), stays cols k o (32 + i) (λ m x. n (omega arith)), stays cols k o (192 + i) (λ m x. n (omega arith)))
+        (f .settled i l)
 
-    settled : (i : ℕ) → i < 32 → Cmp i k → endOf (opBy (opPut cols k o) i) ≤ getD (opPut cols k o) (192 + i) 0
+    settled : (i : ℕ) → i < 32 → Cmp i k → InOrder (getD (opPut cols k o) i 0) (getD (opPut cols k o) (32 + i) 0) (getD (opPut cols k o) (192 + i) 0)
     settled i l (Cmp.less m) = other i l (λ x. omega arith)
     settled i l (Cmp.same m) =
-        rw m
-        (let same = ap endOf (with-there cols k o (f .long) h) in
-        omega (arith, same, date-there cols k o (f .long) h))
+        rw (m, start-there cols k o (f .long) h, end-there cols k o (f .long) h, leave-there cols k o (f .long) h)
+        (record { lasts = omega arith; settles = omega arith })
     settled i l (Cmp.more m) = other i l (λ x. omega arith)
 
     there : (i : ℕ) → i < k + 1 → Cmp i k → opBy (opPut cols k o) i ≡ op T i

@@ -8,14 +8,14 @@ use Rattle.rules.specs.Table.{Op, Table, op, endOf, heldTo}
 use Rattle.table.specs.Tables.{opOf, blankOp}
 use Rattle.table.specs.declared.Op as code
 
--- operation i by its columns: start, duration, boards, cells read, cells written, modes, and the tick from which it no longer holds its boards; 32
--- entries each
+-- operation i by its columns: start, end, boards, cells read, cells written, modes, and the tick from which it no longer holds its boards; 32 entries
+-- each
 abbrev pub opBy : List ℕ → ℕ → Op
 opBy cols i =
     record {
       start = getD cols i 0;
-      dur = getD cols (32 + i) 0;
-      hold = getD cols (192 + i) 0 - (getD cols i 0 + getD cols (32 + i) 0);
+      dur = getD cols (32 + i) 0 - getD cols i 0;
+      hold = getD cols (192 + i) 0 - getD cols (32 + i) 0;
       boards = getD cols (64 + i) 0;
       reads = getD cols (96 + i) 0;
       writes = getD cols (128 + i) 0;
@@ -25,12 +25,16 @@ opBy cols i =
 -- with operation k stored
 abbrev pub opPut : List ℕ → ℕ → Op → List ℕ
 opPut cols k o =
-    let numbers = set (set (set (set (set (set cols k (o .start)) (32 + k) (o .dur)) (64 + k) (o .boards)) (96 + k) (o .reads)) (128 + k) (o .writes)) (160 + k) (o .modes) in
+    let numbers = set (set (set (set (set (set cols k (o .start)) (32 + k) (endOf o)) (64 + k) (o .boards)) (96 + k) (o .reads)) (128 + k) (o .writes)) (160 + k) (o .modes) in
     set numbers (192 + k) (heldTo o)
 
--- no operation lets go of its boards before it ends
+-- no operation ends before it starts, or lets go of its boards before it ends
+pub record InOrder (start end leave : ℕ) : Type 0 where
+  pub lasts : start ≤ end
+  pub settles : end ≤ leave
+
 abbrev pub Settled : List ℕ → Type 0
-Settled cols = (i : ℕ) → i < 32 → endOf (opBy cols i) ≤ getD cols (192 + i) 0
+Settled cols = (i : ℕ) → i < 32 → InOrder (getD cols i 0) (getD cols (32 + i) 0) (getD cols (192 + i) 0)
 
 -- these are the columns of T; past its operations they hold nothing
 pub record Columns (T : Table) (cols : List ℕ) : Type 0 where

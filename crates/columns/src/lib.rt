@@ -1,4 +1,5 @@
-// A table's operations in columns, made once for a table and lent from then on: a column for each of the seven numbers, 32 entries each.
+// A table's operations in columns, made once for a table and lent from then on: a column for each of the seven numbers, with the dates at which it ends
+// and lets go of its boards in place of duration and hold, 32 entries each.
 ghost use mathlib.Core.Path.{_≡_};
 ghost use mathlib.Core.List.{map};
 ghost use Prim.Native.Nat.{_<_, _≤_};
@@ -36,7 +37,7 @@ pub fn end(cols: &[u32; 224], i: usize) -> u32
     requires { ⌜ (i < 32) × Short (now cols) ⌝ }
     ensures { λ r. ⌜ r ≡ endOf (opBy (now (cols .entry)) i) ⌝ }
 {
-    cols[i] + cols[32 + i]
+    cols[32 + i]
 }
 
 // The tick from which it no longer holds its boards.
@@ -55,7 +56,7 @@ fn put_op(cols: &mut [u32; 224], k: usize, o: Op)
     ensures { λ _. ⌜ now (cols .exit) ≡ opPut (now (cols .entry)) k (opOf o) ⌝ }
 {
     cols[k] = o.start;
-    cols[32 + k] = o.dur;
+    cols[32 + k] = o.start + o.dur;
     cols[64 + k] = o.boards;
     cols[96 + k] = o.reads;
     cols[128 + k] = o.writes;

@@ -1,4 +1,4 @@
--- The date is there, and is not before the end.
+-- The date is there, and the three dates are in order.
 -- Assumes nothing.
 use native.Mathlib.Omega.{arith}
 use borrow.Author.Needs.{needs}
