@@ -1,6 +1,6 @@
 -- Laws of the decider's field and of a decider that is handed over: each outcome, and the table that holds who was named.
 -- Assumes nothing.
-use Prim.Native.Nat.{ℕ, _+_, _<_, _≤_}
+use Prim.Native.Nat.{ℕ, _+_, _*_, _<_, _≤_}
 use mathlib.Core.Path.{_≡_, refl, sym, ap, _∙_}
 use mathlib.Core.List.{List}
 use native.Mathlib.Omega.{arith}
@@ -11,7 +11,7 @@ use Rattle.rules.specs.Table as rules
 use Rattle.rules.specs.Table.{nobody, decides, nops}
 use Rattle.rules.specs.Verdicts.{accepted, refused, SHORT, ORDER, RANGE, _then_}
 use Rattle.rules.specs.Bytes.{num8}
-use Rattle.rules.specs.Judge.{ranged, header, fieldTest, deciderWrong, withDecider, opsEnd, nothingDue, deciderAt, deciderTest}
+use Rattle.rules.specs.Judge.{ranged, header, fieldTest, deciderWrong, withDecider, opsPlace, opsEnd, nothingDue, deciderAt, deciderTest}
 use Rattle.theory.proofs.Verdicts.{passes, refuses, then-accepts, then-refuses, then-first}
 use Rattle.theory.proofs.Ranges.{ranged-yes, ranged-no}
 use Rattle.theory.proofs.Judging.{both, field-passed, decider-row, nothing-row}
@@ -20,6 +20,7 @@ use Rattle.fields.specs.declared.Refusal.{Refusal}
 use Rattle.fields.specs.Fields.{fieldOf}
 use Rattle.fields.specs.FieldLaws.{field-bad, field-ranged}
 use Rattle.fields.specs.RefusalLaws.{then-refusal}
+use Rattle.widths.specs.WidthLaws.{size-least}
 use Rattle.table.specs.Tables.{whoOf, whoIn, tableOf, tableIn}
 use Rattle.table.specs.TableLaws.{nops-count}
 use Rattle.table.specs.declared.Decider.{Decider}
@@ -133,6 +134,12 @@ module _ (T : rules.Table) {at n : ℕ} (end : at ≡ opsEnd T) (count : n ≡ n
       → behindOf s T ≡ accepted (withDecider T who)
   unfolding behindOf
   behind-fine s e is = then-accepts _ (sym (e ∙ test-there s)) ∙ ap (λ (x : rules.Decider). accepted (withDecider T x)) (sym (is ∙ ap (deciderAt s) end))
+
+  -- an input that is no longer than operations without a hold has nothing behind them
+  pub behind-none : (s : List ℕ) → length s ≤ opsPlace (T .modes) + 21 * n → behindOf s T ≡ accepted (withDecider T nobody)
+  behind-none s h =
+      let over : length s ≤ at = omega (arith, end, count, size-least (T .ops)) in
+      behind-fine s (sym (no-field s at n over)) (who-none s at over)
 
   pub handed-bad : (who : rules.Decider) {wrong : ℕ} → wrong ≡ deciderWrong n who → (wrong ≡ 0 → ⊥) → handedOf who T ≡ refused RANGE at (at + wrong)
   unfolding handedOf

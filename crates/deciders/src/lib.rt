@@ -96,6 +96,10 @@ fn read_behind(s: &[u8], t: Table) -> Judged
     requires { ⌜ t ≡ tableIn (tableOf t) ⌝ }
     ensures { λ r. ⌜ JudgedAs (behindOf (now (s .entry)) (tableOf t)) r ⌝ }
 {
+    // where the input is no longer than operations without a hold, nothing stands behind them
+    if s.len() <= table::ops_place(t.modes) + 21 * t.count {
+        return named(t, Decider::Nobody);
+    }
     let ops = t.ops;
     let at = widths::ops_end(t.modes, ops, t.count);
     let v = field_test(s, at, t.count);

@@ -8,11 +8,17 @@ use native.Mathlib.Omega.{arith}
 use lib.ListN.{length, getD, take, length-map, length-take}
 use lib.Seq.{take-suc}
 use Rattle.rules.specs.Table.{Op}
+use Rattle.rules.specs.Bytes.{settles}
 use Rattle.rules.specs.Judge.{opsSize}
 use Rattle.theory.specs.Holds.{opWidth}
-use Rattle.theory.proofs.Judging.{size-none, size-more, size-most}
+use Rattle.theory.proofs.Judging.{size-none, size-more, form-least, size-most}
 use Rattle.table.specs.Tables.{opOf, blankOp}
 use Rattle.table.specs.declared.Op as code
+
+-- none has fewer bytes than one without a hold
+pub size-least : (os : List Op) → 21 * length os ≤ opsSize os
+size-least [] = omega arith
+size-least (o ∷ os) = omega (arith, size-more o os, form-least (settles o), size-least os)
 
 -- one more behind them
 pub size-snoc : (os : List Op) (o : Op) → opsSize (os ++ (o ∷ [])) ≡ opsSize os + opWidth o
