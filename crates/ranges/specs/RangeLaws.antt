@@ -6,12 +6,12 @@ use mathlib.Core.Bool.{Bool, true, false}
 use mathlib.Core.List.{List, [], _∷_, _++_}
 use native.Mathlib.Omega.{arith}
 use lib.Pow.{pow-mono}
-use borrow.Author.Tests.{le-leb, lt-leb, lt-ltb, le-ltb}
+use borrow.Author.Tests.{le-leb, lt-ltb, le-ltb}
 use Rattle.rules.specs.Table as rules
 use Rattle.rules.specs.Judge.{Number, wrongFrom, dateRanges, holdRanges, usedRanges, opWrong}
 use Rattle.theory.specs.Holds.{Plain}
 use Rattle.theory.proofs.Says.{Known, holds, fails, known}
-use Rattle.theory.proofs.Ranges.{wrong-here, wrong-later}
+use Rattle.theory.proofs.Ranges.{wrong-here, wrong-later, dates-no-time, dates-late, dates-no-hold, dates-past}
 use Rattle.theory.proofs.Judging.{own-wrong, op-passed}
 use Rattle.ranges.specs.Ranges.{counted, datesOf, usedAt, setsOf}
 
@@ -68,49 +68,45 @@ module _ (T : rules.Table) (o : rules.Op) where
 
 -- its dates, one after the other
 module _ (len : ℕ) (o : rules.Op) where
-  module _ (held : Bool) where
-    pub dates-start : 65536 ≤ o .start → datesOf len held o ≡ 3
-    unfolding datesOf
-    dates-start h = rw (le-ltb (o .start) 65536 h)
+  abbrev T : rules.Table
+  T = counted len 0 0 0
 
-    pub dates-none : o .start < 65536 → o .dur < 1 → datesOf len held o ≡ 5
-    unfolding datesOf
-    dates-none fits h = rw (lt-ltb (o .start) 65536 fits, lt-leb 1 (o .dur) h)
+  pub start-large : (held : Bool) → 65536 ≤ o .start → datesOf len held o ≡ 3
+  unfolding datesOf
+  start-large held h = rw (le-ltb (o .start) 65536 h)
 
-    pub dates-late : o .start < 65536 → 1 ≤ o .dur → len < o .start + o .dur → datesOf len held o ≡ 5
+  module _ (fits : o .start < 65536) where
+    pub no-time : (held : Bool) → o .dur < 1 → datesOf len held o ≡ 5
     unfolding datesOf
-    dates-late fits h l = rw (lt-ltb (o .start) 65536 fits, le-leb 1 (o .dur) h, lt-leb (o .start + o .dur) len l)
+    no-time held h = dates-no-time T o fits (holdRanges T held o) h
 
-  module _ (fits : o .start < 65536) (lasts : 1 ≤ o .dur) (ends : o .start + o .dur ≤ len) where
-    pub dates-plain : datesOf len false o ≡ 0
+    pub late : (held : Bool) → 1 ≤ o .dur → len < o .start + o .dur → datesOf len held o ≡ 5
     unfolding datesOf
-    dates-plain = rw (lt-ltb (o .start) 65536 fits, le-leb 1 (o .dur) lasts, le-leb (o .start + o .dur) len ends)
+    late held h l = dates-late T o fits (holdRanges T held o) h l
 
-    pub dates-no-hold : o .hold < 1 → datesOf len true o ≡ 7
-    unfolding datesOf
-    dates-no-hold h = rw (lt-ltb (o .start) 65536 fits, le-leb 1 (o .dur) lasts, le-leb (o .start + o .dur) len ends, lt-leb 1 (o .hold) h)
+    module _ (lasts : 1 ≤ o .dur) (ends : o .start + o .dur ≤ len) where
+      pub dates-plain : datesOf len false o ≡ 0
+      unfolding datesOf
+      dates-plain = rw (lt-ltb (o .start) 65536 fits, le-leb 1 (o .dur) lasts, le-leb (o .start + o .dur) len ends)
 
-    pub dates-past : 1 ≤ o .hold → len < o .start + o .dur + o .hold → datesOf len true o ≡ 7
-    unfolding datesOf
-    dates-past h l =
-        rw (
-          lt-ltb (o .start) 65536 fits,
-          le-leb 1 (o .dur) lasts,
-          le-leb (o .start + o .dur) len ends,
-          le-leb 1 (o .hold) h,
-          lt-leb (o .start + o .dur + o .hold) len l,
-        )
+      pub no-hold : o .hold < 1 → datesOf len true o ≡ 7
+      unfolding datesOf
+      no-hold h = dates-no-hold T o fits lasts ends [] h
 
-    pub dates-held : 1 ≤ o .hold → o .start + o .dur + o .hold ≤ len → datesOf len true o ≡ 0
-    unfolding datesOf
-    dates-held h l =
-        rw (
-          lt-ltb (o .start) 65536 fits,
-          le-leb 1 (o .dur) lasts,
-          le-leb (o .start + o .dur) len ends,
-          le-leb 1 (o .hold) h,
-          le-leb (o .start + o .dur + o .hold) len l,
-        )
+      pub held-past : 1 ≤ o .hold → len < o .start + o .dur + o .hold → datesOf len true o ≡ 7
+      unfolding datesOf
+      held-past h l = dates-past T o fits lasts ends [] h l
+
+      pub dates-held : 1 ≤ o .hold → o .start + o .dur + o .hold ≤ len → datesOf len true o ≡ 0
+      unfolding datesOf
+      dates-held h l =
+          rw (
+            lt-ltb (o .start) 65536 fits,
+            le-leb 1 (o .dur) lasts,
+            le-leb (o .start + o .dur) len ends,
+            le-leb 1 (o .hold) h,
+            le-leb (o .start + o .dur + o .hold) len l,
+          )
 
 -- of a table only its length and its counts say what is wrong
 pub wrong-counted : (T : rules.Table) (held : Bool) (o : rules.Op) → opWrong (counted (T .len) (T .boards) (T .cells) (T .modes)) held o ≡ opWrong T held o

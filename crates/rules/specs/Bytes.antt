@@ -89,7 +89,8 @@ longestTable = 886
 abbrev pub farthest : ℕ
 farthest = 889
 
--- the form of the operation's field at a place, by its length: every other length is refused
+-- the form of the operation's field at a place, by its length: with a hold where that is 20, and else the form of 18 bytes, for which every length but
+-- 18 is refused
 abbrev pub heldAt : List ℕ → ℕ → Bool
 heldAt s at = eqb (num16 s (at + 1)) 20
 

@@ -14,13 +14,13 @@ use Rattle.rules.specs.Table.{Op, noOp, Decider, decides, Table, nops, endOf, h
 use Rattle.rules.specs.Rows.{Ticks, ticks}
 use Rattle.rules.specs.Verdicts.{Verdict, accepted, refused, SHORT, ORDER, SIZE, RANGE, MANY, CLASH, RACE, refuseIf, _then_, more}
 use Rattle.rules.specs.Bytes.{num8, num16, num32, words, opSize, heldAt, readOp, opAt, rowAt}
-use Rattle.rules.specs.Judge.{needed, header, due, sized, complete, notMany, ranged, fieldTest, repeatTest, atEnd, fieldsFrom, Number, firstWrong, lenRanges, lenWrong, countRanges, countsWrong, setRanges, setsWrong, opRanges, opWrong, deciderRanges, deciderWrong, clashes, races, pairsTest, earlyTest, judgeWhole, headOf, withOps, withDecider, opsPlace, opsSize, opsEnd, headTest, opsDone, sizeAt, wrongAt, opsFrom, nothingDue, deciderAt, judgeBehind, judge, Numbers, markedOf, opOfNumbers, headOfNumbers, deciderOf, noneLeft, numbersTest, opsOfNumbers, judgeNumbers, rowRanges, rowWrong, rowsFrom, judgeReply}
+use Rattle.rules.specs.Judge.{needed, header, due, sized, complete, notMany, ranged, fieldTest, repeatTest, atEnd, fieldsFrom, Number, firstWrong, lenRanges, lenWrong, countRanges, countsWrong, setRanges, setsWrong, usedRanges, opRanges, opWrong, deciderRanges, deciderWrong, clashes, races, pairsTest, earlyTest, judgeWhole, headOf, withOps, withDecider, opsPlace, opsSize, opsEnd, headTest, opsDone, sizeAt, wrongAt, opsFrom, nothingDue, deciderAt, judgeBehind, judge, Numbers, markedOf, opOfNumbers, headOfNumbers, deciderOf, noneLeft, numbersTest, opsOfNumbers, judgeNumbers, rowRanges, rowWrong, rowsFrom, judgeReply}
 use Rattle.theory.specs.Holds.{placeFrom, HoldWrong}
 use Rattle.theory.specs.Numbers.{opAmong, markAmong, placeAmong}
 use Rattle.theory.specs.Blamed.{bytesBefore, among, Names, numberAt, ReadFrom, Steps, StepFine, stepPlace, stepsIn, stepsOf, FieldBehind, HandedBehind, rowThere, Blames, length-wrong, count-wrong, set-wrong, step-wrong, decider-wrong, ReplyBlames, period-wrong, row-wrong}
 use Rattle.theory.proofs.Says.{Known, holds, fails, known, says-leb, says-ltb, says-and, clash-bool}
 use Rattle.theory.proofs.Verdicts.{never-refused, passed, fault-refused, then-first, then-rest, then-refused, onwards-refused, more-first, more-refused}
-use Rattle.theory.proofs.Ranges.{first-told, told-first, range-passed, op-no-hold, op-held-past}
+use Rattle.theory.proofs.Ranges.{first-told, told-first, range-passed, dates-no-hold, dates-past}
 use Rattle.theory.proofs.Deciders.{early-number}
 use Rattle.theory.proofs.Judging.{both, field-row, repeat-row, field-passed, repeat-passed, place-even, fields-end, fields-next, fields-values, own-form, plain-handed, size-none, size-more, pairs-refused, whole-row, HeadOk, head-row, head-ok, judge-row, behind-row, decider-row, nothing-row, ops-passing, ops-place, numbers-end, numbers-next, numbers-passing, numbers-row, numbers-ok, judgeDecider-row, judgeNumbers-row}
 use Rattle.theory.proofs.Numbers.{after-op, after-mark}
@@ -530,9 +530,9 @@ module _ (T : Table) (o : Op) where
       blamed x = go (x .wrong) (known (leb 1 (o .hold)))
         where
           go : (o .hold < 1) ⊎ (T .len < heldTo o) → Known (leb 1 (o .hold)) → opWrong T true o ≡ 7
-          go (inl h) _ = op-no-hold T o (x .fits) (x .lasts) (x .ends) h
-          go (inr h) (fails n) = op-no-hold T o (x .fits) (x .lasts) (x .ends) (leb-false 1 (o .hold) n)
-          go (inr h) (holds y) = op-held-past T o (x .fits) (x .lasts) (x .ends) (leb-true 1 (o .hold) y) h
+          go (inl h) _ = dates-no-hold T o (x .fits) (x .lasts) (x .ends) (usedRanges T o) h
+          go (inr h) (fails n) = dates-no-hold T o (x .fits) (x .lasts) (x .ends) (usedRanges T o) (leb-false 1 (o .hold) n)
+          go (inr h) (holds y) = dates-past T o (x .fits) (x .lasts) (x .ends) (usedRanges T o) (leb-true 1 (o .hold) y) h
 
   -- so of the field at a, b is a + 7 exactly there
   pub hold-named : (a b : ℕ) → Names (opRanges T true o) a b → (b ≡ a + 7) ↔ HoldWrong T o

@@ -4,7 +4,7 @@
 use Prim.Native.Nat.{ℕ, zero, suc, _+_, _*_, _<_, _≤_}
 use mathlib.Core.Path.{_≡_, refl, sym, ap, _∙_}
 use mathlib.Core.Bool.{Bool, true, false, not}
-use mathlib.Core.List.{List, [], _∷_}
+use mathlib.Core.List.{List, [], _∷_, _++_}
 use mathlib.Core.Logic.{_↔_}
 use native.Mathlib.Numerals.{add-one}
 use native.Mathlib.Omega.{arith}
@@ -16,7 +16,7 @@ use Rattle.rules.specs.Table.{Op, Decider, nobody, decides, Table, heldTo}
 use Rattle.rules.specs.Rows.{Ticks, Row, unfoldAt}
 use Rattle.rules.specs.Verdicts.{accepted, refused, RANGE}
 use Rattle.rules.specs.Bytes.{opSize}
-use Rattle.rules.specs.Judge.{Number, number, wrongFrom, firstWrong, ranged, lenRanges, lenWrong, countRanges, countsWrong, setOk, setRanges, setsWrong, opRanges, opWrong, deciderRanges, deciderWrong, rowRanges, rowWrong}
+use Rattle.rules.specs.Judge.{Number, number, wrongFrom, firstWrong, ranged, lenRanges, lenWrong, countRanges, countsWrong, setOk, setRanges, setsWrong, dateRanges, holdRanges, opRanges, opWrong, deciderRanges, deciderWrong, rowRanges, rowWrong}
 use Rattle.rules.specs.Bench.{All}
 use Rattle.theory.specs.Blamed.{bytesBefore, among, FirstFrom}
 use Rattle.theory.proofs.Says.{Known, holds, fails, known}
@@ -192,34 +192,36 @@ pub decider-high : (n d : ℕ) → n ≤ d → deciderWrong n (decides d) ≡ 3
 unfolding deciderWrong
 decider-high n d h = rw (le-ltb d n h)
 
-module _ (T : Table) (held : Bool) (o : Op) (fits : o .start < 65536) where
+-- an operation's dates, whatever numbers stand behind them
+module _ (T : Table) (o : Op) (fits : o .start < 65536) where
   -- "a duration d of at least 1"
-  pub op-no-time : o .dur < 1 → opWrong T held o ≡ 5
-  unfolding opWrong
-  op-no-time h = rw (lt-ltb (o .start) 65536 fits, lt-leb 1 (o .dur) h)
+  pub dates-no-time : (behind : List Number) → o .dur < 1 → firstWrong (dateRanges T o ++ behind) ≡ 5
+  unfolding firstWrong
+  dates-no-time behind h = rw (lt-ltb (o .start) 65536 fits, lt-leb 1 (o .dur) h)
 
   -- "an operation that ends after p blames its duration", whatever its hold
-  pub op-late : 1 ≤ o .dur → T .len < o .start + o .dur → opWrong T held o ≡ 5
-  unfolding opWrong
-  op-late h l = rw (lt-ltb (o .start) 65536 fits, le-leb 1 (o .dur) h, lt-leb (o .start + o .dur) (T .len) l)
+  pub dates-late : (behind : List Number) → 1 ≤ o .dur → T .len < o .start + o .dur → firstWrong (dateRanges T o ++ behind) ≡ 5
+  unfolding firstWrong
+  dates-late behind h l = rw (lt-ltb (o .start) 65536 fits, le-leb 1 (o .dur) h, lt-leb (o .start + o .dur) (T .len) l)
 
-module _ (T : Table) (o : Op) (fits : o .start < 65536) (lasts : 1 ≤ o .dur) (ends : o .start + o .dur ≤ T .len) where
-  -- document 02, No. 9: "a 20-byte field with hold 0 is RANGE and blames the hold"
-  pub op-no-hold : o .hold < 1 → opWrong T true o ≡ 7
-  unfolding opWrong
-  op-no-hold h = rw (lt-ltb (o .start) 65536 fits, le-leb 1 (o .dur) lasts, le-leb (o .start + o .dur) (T .len) ends, lt-leb 1 (o .hold) h)
+  module _ (lasts : 1 ≤ o .dur) (ends : o .start + o .dur ≤ T .len) where
+    -- document 02, No. 9: "a 20-byte field with hold 0 is RANGE and blames the hold"
+    pub dates-no-hold : (behind : List Number) → o .hold < 1 → firstWrong (dateRanges T o ++ (holdRanges T true o ++ behind)) ≡ 7
+    unfolding firstWrong
+    dates-no-hold behind h =
+        rw (lt-ltb (o .start) 65536 fits, le-leb 1 (o .dur) lasts, le-leb (o .start + o .dur) (T .len) ends, lt-leb 1 (o .hold) h)
 
-  -- "so does a hold that alone runs past p"
-  pub op-held-past : 1 ≤ o .hold → T .len < heldTo o → opWrong T true o ≡ 7
-  unfolding opWrong
-  op-held-past h l =
-      rw (
-        lt-ltb (o .start) 65536 fits,
-        le-leb 1 (o .dur) lasts,
-        le-leb (o .start + o .dur) (T .len) ends,
-        le-leb 1 (o .hold) h,
-        lt-leb (heldTo o) (T .len) l,
-      )
+    -- "so does a hold that alone runs past p"
+    pub dates-past : (behind : List Number) → 1 ≤ o .hold → T .len < heldTo o → firstWrong (dateRanges T o ++ (holdRanges T true o ++ behind)) ≡ 7
+    unfolding firstWrong
+    dates-past behind h l =
+        rw (
+          lt-ltb (o .start) 65536 fits,
+          le-leb 1 (o .dur) lasts,
+          le-leb (o .start + o .dur) (T .len) ends,
+          le-leb 1 (o .hold) h,
+          lt-leb (heldTo o) (T .len) l,
+        )
 
 module _ (q : Ticks) (r : Row) where
   -- a folded start that is not below the period
