@@ -29,7 +29,7 @@ use Rattle.rules.specs.Bench.{opn, held, oneMode, k1, k1-bytes, k2, k3, 
 -- ---- members of small sets
 
 -- a set below 2 ^ n has no member from n on
-in-small : (n s m : ℕ) → s < 2 ^ n → n ≤ m → In m s → ⊥
+pub in-small : (n s m : ℕ) → s < 2 ^ n → n ≤ m → In m s → ⊥
 unfolding has
 in-small n s m small h x =
     let far : 2 ^ n ≤ 2 ^ m = pow-mono h in omega (arith, eqb-true (s / 2 ^ m % 2) 1 x, div-eq-of-lt {n = s} {m = 2 ^ m} (omega arith))

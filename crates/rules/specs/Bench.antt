@@ -1,12 +1,14 @@
 -- Document 01, "Bench tables": K1 to K10, those marked to be proved, each with its whole answer, as one list; and a list of tables with a decider,
--- for document 02, No. 4, and of tables with a hold, for No. 9.
+-- for document 02, No. 4, of tables with a hold, for No. 9, and of tables that are renamed, for No. 12.
 -- Assumes nothing.
 use Prim.Native.Nat.{ℕ}
 use mathlib.Core.Bool.{Bool, true, false}
 use mathlib.Core.List.{List, [], _∷_, _++_}
 use lib.IntN.{ℤ, pos, negsuc}
+use lib.ListN.{getD}
 use Rattle.rules.specs.Table.{Op, Decider, nobody, decides, Table}
 use Rattle.rules.specs.Rows.{Row, Reply, ticks, cycles}
+use Rattle.rules.specs.Renamed.{Names, inOrder, boardsBy, modesBy}
 use Rattle.rules.specs.Verdicts.{Verdict, accepted, refused}
 use Rattle.rules.specs.Bytes.{tableBytes}
 use Rattle.rules.specs.Answers.{ReplyTo, IsMargin, BoardsFit, ValuesArrive}
@@ -284,4 +286,112 @@ holdBench =
     ∷ replies (k1-20 5 0) (refused 4 22 27)
     ∷ replies (k1-20 5 2) (refused 4 22 27)
     ∷ replies k1-19 (refused 3 22 0)
+    ∷ []
+
+-- ---- document 02, No. 12: tables with their operations in another order, their boards and their modes renamed
+
+-- a map written as a row: entry i is what i is taken to
+abbrev pub byRow : List ℕ → ℕ → ℕ
+byRow xs i = getD xs i i
+
+-- K2 with its operations turned round
+abbrev pub turnedRound : Names
+turnedRound = inOrder (byRow (2 ∷ 1 ∷ 0 ∷ []))
+
+abbrev pub k2-turned : Table
+k2-turned = oneMode 6 3 2 (opn 4 2 4 2 0 1 ∷ opn 2 2 2 1 2 1 ∷ opn 0 2 1 0 1 1 ∷ [])
+
+-- K3 with its boards 0, 1, 2 named 5, 0, 3, of six
+abbrev pub otherBoards : Names
+otherBoards = boardsBy (byRow (5 ∷ 0 ∷ 3 ∷ []))
+
+abbrev pub k3-renamed : Table
+k3-renamed = oneMode 6 6 2 (opn 0 2 32 2 1 1 ∷ opn 2 2 1 1 2 1 ∷ opn 4 2 8 2 0 1 ∷ [])
+
+-- K5 with its modes exchanged
+abbrev pub exchanged : Names
+exchanged = modesBy (byRow (1 ∷ 0 ∷ []))
+
+abbrev pub k5-exchanged : Table
+k5-exchanged =
+    record {
+      len = 4;
+      boards = 2;
+      cells = 0;
+      modes = 2;
+      first = 2;
+      follow = 2 ∷ 1 ∷ [];
+      ops = opn 0 4 1 0 0 2 ∷ opn 0 4 2 0 0 1 ∷ [];
+      decider = nobody;
+    }
+
+-- K7 with modes 0 and 1 exchanged: 1 to 0 to 2 to 1, first is 1
+abbrev pub k7-exchanged : Table
+k7-exchanged =
+    record {
+      len = 6;
+      boards = 2;
+      cells = 1;
+      modes = 3;
+      first = 2;
+      follow = 4 ∷ 1 ∷ 2 ∷ [];
+      ops = opn 4 2 2 0 1 2 ∷ opn 0 1 1 1 0 4 ∷ [];
+      decider = nobody;
+    }
+
+-- [0,2) with hold 1 on board 0 writes c0 and decides; [2,5) board 1 reads it in the cold, [4,5) board 2 in the warm, which only the cold follows
+abbrev pub sorted-before : Table
+sorted-before = coldWarm (3 ∷ 1 ∷ []) (held 0 2 1 1 0 1 3 ∷ opn 2 3 2 1 0 1 ∷ opn 4 1 4 1 0 2 ∷ []) (decides 0)
+
+-- all at once: operations 0, 1, 2 at 2, 0, 1; boards 0, 1, 2 named 1, 4, 0, of five; cold and warm exchanged
+abbrev pub allThree : Names
+allThree = record { place = byRow (2 ∷ 0 ∷ 1 ∷ []); board = byRow (1 ∷ 4 ∷ 0 ∷ []); mode = byRow (1 ∷ 0 ∷ []) }
+
+abbrev pub sorted : Table
+sorted =
+    record {
+      len = 6;
+      boards = 5;
+      cells = 1;
+      modes = 2;
+      first = 2;
+      follow = 2 ∷ 3 ∷ [];
+      ops = opn 2 3 16 1 0 2 ∷ opn 4 1 1 1 0 1 ∷ held 0 2 1 2 0 1 3 ∷ [];
+      decider = decides 2;
+    }
+
+-- K10 with its operations turned round; and behind one on another board, moved to the front
+abbrev pub k10-turned : Table
+k10-turned = oneMode 3 1 0 (opn 1 2 1 0 0 1 ∷ opn 0 2 1 0 0 1 ∷ [])
+
+abbrev pub k10-behind : Table
+k10-behind = oneMode 3 2 0 (opn 0 1 2 0 0 1 ∷ opn 0 2 1 0 0 1 ∷ opn 1 2 1 0 0 1 ∷ [])
+
+abbrev pub k10-before : Table
+k10-before = oneMode 3 2 0 (opn 0 2 1 0 0 1 ∷ opn 1 2 1 0 0 1 ∷ opn 0 1 2 0 0 1 ∷ [])
+
+-- an operation on board 1 of one; and the same renamed to board 0
+abbrev pub no-such-board : Table
+no-such-board = oneMode 3 1 0 (opn 0 2 2 0 0 1 ∷ [])
+
+-- the tables before and after, with their replies, questions and margins; and refused ones
+unfoldable pub renamedBench : List Case
+unfolding tableBytes
+renamedBench =
+    table k2-turned (reply 2 (row 0 2 ∷ row 0 1 ∷ row 0 0 ∷ []))
+    ∷ margins (tableBytes k2) 0 1 1 2 (accepted (pos 2))
+    ∷ margins (tableBytes k2-turned) 2 1 1 2 (accepted (pos 2))
+    ∷ table k3-renamed (reply 4 (row 0 0 ∷ row 2 0 ∷ row 0 1 ∷ []))
+    ∷ table k5-exchanged (reply 2 (row 0 0 ∷ row 0 0 ∷ []))
+    ∷ fits (tableBytes k5) 1 (accepted false)
+    ∷ fits (tableBytes k5-exchanged) 1 (accepted false)
+    ∷ table k7-exchanged (reply 3 (row 1 1 ∷ row 0 0 ∷ []))
+    ∷ fits (tableBytes k7-exchanged) 2 (accepted true)
+    ∷ arrives (tableBytes k7-exchanged) 2 (accepted false)
+    ∷ table sorted-before (reply 3 (row 0 0 ∷ row 2 0 ∷ row 1 1 ∷ []))
+    ∷ table sorted (reply 3 (row 2 0 ∷ row 1 1 ∷ row 0 0 ∷ []))
+    ∷ table k10-turned (refused 6 0 1)
+    ∷ table k10-behind (refused 6 1 2)
+    ∷ table k10-before (refused 6 0 1)
+    ∷ table no-such-board (refused 4 22 29)
     ∷ []

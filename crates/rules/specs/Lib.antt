@@ -3,6 +3,7 @@ pub mod Table
 pub mod Runs
 pub mod Better
 pub mod Rows
+pub mod Renamed
 pub mod Verdicts
 pub mod Bytes
 pub mod Judge
