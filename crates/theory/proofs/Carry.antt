@@ -11,6 +11,7 @@ use Rattle.rules.specs.Table.{Table, nops, op, endOf, Accepted}
 use Rattle.rules.specs.Runs.{mode, IsRun, Runs, Source, BoardsRightAt, ValuesRightAt, RightAt, Right, spaced, IsPeriod}
 use Rattle.rules.specs.Better.{Better}
 use Rattle.theory.specs.Carry.{OpCarried, Carry}
+use Rattle.theory.proofs.Exists.{run-mode}
 use Rattle.theory.proofs.Sources.{ended-iff-started, writes-in-order}
 
 mode-map : (f : ℕ → ℕ) (r : List ℕ) (k : ℕ) → k < length r → mode (map f r) k ≡ f (mode r k)
@@ -18,7 +19,7 @@ mode-map f [] k h = absurd (omega arith)
 mode-map f (m ∷ r) zero h = refl
 mode-map f (m ∷ r) (suc k) h = mode-map f r k (omega arith)
 
-module _ (S T : Table) (s t f : ℕ → ℕ) (c : Carry S T s t f) where
+module _ (S T : Table) (s t f : ℕ → ℕ) (c : Carry S T s t f) (okS : Accepted S) where
   run-of : (r : List ℕ) → IsRun S r → IsRun T (map f r)
   run-of r x =
       record {
@@ -29,45 +30,49 @@ module _ (S T : Table) (s t f : ℕ → ℕ) (c : Carry S T s t f) where
             rw (mode-map f r k (omega arith), mode-map f r (suc k) l) (c .turns (mode r k) (mode r (suc k)) (x .goes k l));
       }
 
-  runs-of : (r : List ℕ) (k i : ℕ) → Runs S r k i → Runs T (map f r) k (s i)
-  runs-of r k i x =
-      record {
-        cycle = omega (arith, x .cycle, length-map r f);
-        isOp = c .there i (x .isOp);
-        inMode = rw (mode-map f r k (x .cycle)) (c .each i (x .isOp) .modes (mode r k) .0 (x .inMode));
-      }
+  module _ (r : List ℕ) (run : IsRun S r) where
+    runs-of : (k i : ℕ) → Runs S r k i → Runs T (map f r) k (s i)
+    runs-of k i x =
+        record {
+          cycle = omega (arith, x .cycle, length-map r f);
+          isOp = c .there i (x .isOp);
+          inMode =
+              rw (mode-map f r k (x .cycle)) (c .each i (x .isOp) .modes (mode r k) (run-mode S okS r run k (x .cycle)) .0 (x .inMode));
+        }
 
-  runs-to : (r : List ℕ) (k i : ℕ) → i < nops S → Runs T (map f r) k (s i) → Runs S r k i
-  runs-to r k i h x =
-      let l : k < length r = omega (arith, x .cycle, length-map r f) in
-      record {
-        cycle = l;
-        isOp = h;
-        inMode = c .each i h .modes (mode r k) .1 (subst (λ (m : ℕ). In m (op T (s i) .modes)) (mode-map f r k l) (x .inMode));
-      }
+    runs-to : (k i : ℕ) → i < nops S → Runs T (map f r) k (s i) → Runs S r k i
+    runs-to k i h x =
+        let l : k < length r = omega (arith, x .cycle, length-map r f) in
+        record {
+          cycle = l;
+          isOp = h;
+          inMode =
+              c .each i h .modes (mode r k) (run-mode S okS r run k l) .1
+              (subst (λ (m : ℕ). In m (op T (s i) .modes)) (mode-map f r k l) (x .inMode));
+        }
 
   module _ (d : ℕ → ℕ) where
-    carry-boards : BoardsRightAt T d → BoardsRightAt S d
+    pub carry-boards : BoardsRightAt T d → BoardsRightAt S d
     unfolding BoardsRightAt
     carry-boards right r run i k j l x y ne b lap =
         let p = c .each i (x .isOp) in
         let q = c .each j (y .isOp) in
-        right (map f r) (run-of r run) (s i) k (s j) l (runs-of r k i x) (runs-of r l j y)
+        right (map f r) (run-of r run) (s i) k (s j) l (runs-of r run k i x) (runs-of r run l j y)
         (λ e. ne (c .apart i j (x .isOp) (y .isOp) (e .0), e .1))
         (c .boards i j (x .isOp) (y .isOp) b)
         (omega (arith, p .start, p .held, q .start, q .held))
 
-  module _ (okS : Accepted S) (okT : Accepted T) where
-    module _ (r : List ℕ) (z i k j l : ℕ) (y : Runs S r l j) (v : In z (op S j .reads))
+  module _ (okT : Accepted T) where
+    module _ (r : List ℕ) (run : IsRun S r) (z i k j l : ℕ) (y : Runs S r l j) (v : In z (op S j .reads))
         (src : Source S r z (op S j .start + l * S .len) i k)
       where
         lens : (m : ℕ) → m * S .len ≡ m * T .len
         lens m = ap (λ (x : ℕ). m * x) (c .len)
 
-        p : OpCarried f (op S i) (op T (s i))
+        p : OpCarried (S .modes) f (op S i) (op T (s i))
         p = c .each i (src .runs .isOp)
 
-        q : OpCarried f (op S j) (op T (s j))
+        q : OpCarried (S .modes) f (op S j) (op T (s j))
         q = c .each j (y .isOp)
 
         -- no write of an operation that comes from S is later than the source
@@ -75,14 +80,14 @@ module _ (S T : Table) (s t f : ℕ → ℕ) (c : Carry S T s t f) where
             → endOf (op T (s u)) + m * T .len ≤ op T (s j) .start + l * T .len
             → endOf (op T (s u)) + m * T .len ≤ endOf (op T (s i)) + k * T .len
         latest u m hu a b h =
-            writes-in-order T okT (map f r) (s u) m (s i) k z a (runs-of r k i (src .runs)) b (p .writes z .0 (src .writes)) .1
+            writes-in-order T okT (map f r) (s u) m (s i) k z a (runs-of r run k i (src .runs)) b (p .writes z .0 (src .writes)) .1
             (omega (arith, e₃, g .start, p .start, lens m, lens k))
           where
-            g : OpCarried f (op S u) (op T (s u))
+            g : OpCarried (S .modes) f (op S u) (op T (s u))
             g = c .each u hu
 
             a′ : Runs S r m u
-            a′ = runs-to r m u hu a
+            a′ = runs-to r run m u hu a
 
             b′ : In z (op S u .writes)
             b′ = g .writes z .1 b
@@ -98,10 +103,10 @@ module _ (S T : Table) (s t f : ℕ → ℕ) (c : Carry S T s t f) where
         carry-source : Source T (map f r) z (op T (s j) .start + l * T .len) (s i) k
         carry-source =
             record {
-              runs = runs-of r k i (src .runs);
+              runs = runs-of r run k i (src .runs);
               writes = p .writes z .0 (src .writes);
               before =
-                  ended-iff-started T okT (map f r) (s i) k (s j) l z (runs-of r k i (src .runs)) (runs-of r l j y)
+                  ended-iff-started T okT (map f r) (s i) k (s j) l z (runs-of r run k i (src .runs)) (runs-of r run l j y)
                   (p .writes z .0 (src .writes)) (q .reads z v) .1
                   (omega (arith, src .before, okS .each i (src .runs .isOp) .lasts, p .start, q .start, lens k, lens l));
               last = λ u m a b h.
@@ -112,20 +117,20 @@ module _ (S T : Table) (s t f : ℕ → ℕ) (c : Carry S T s t f) where
                   e (latest (t u) m (c .back u (a .isOp))) a b h;
             }
 
-    carry-values : (d : ℕ → ℕ) → ValuesRightAt T d → ValuesRightAt S d
+    pub carry-values : (d : ℕ → ℕ) → ValuesRightAt T d → ValuesRightAt S d
     unfolding ValuesRightAt
     carry-values d right r run z i k j l y v src =
         let p = c .each i (src .runs .isOp) in
         let q = c .each j (y .isOp) in
         omega (
           arith,
-          right (map f r) (run-of r run) z (s i) k (s j) l (runs-of r l j y) (q .reads z v) (carry-source r z i k j l y v src),
+          right (map f r) (run-of r run) z (s i) k (s j) l (runs-of r run l j y) (q .reads z v) (carry-source r run z i k j l y v src),
           p .start,
           p .dur,
           q .start,
         )
 
-    carry-right : (d : ℕ → ℕ) → RightAt T d → RightAt S d
+    pub carry-right : (d : ℕ → ℕ) → RightAt T d → RightAt S d
     carry-right d x = record { boards = carry-boards d (x .boards); values = carry-values d (x .values) }
 
 -- a table of better knowledge is carried into the first by the maps that change nothing
@@ -145,7 +150,7 @@ better-carry T S le =
             dur = p .dur;
             reads = λ z x. subst (λ (y : ℕ). In z y) (p .reads) x;
             writes = λ z. (λ x. subst (λ (y : ℕ). In z y) (p .writes) x, λ x. subst⁻¹ (λ (y : ℕ). In z y) (p .writes) x);
-            modes = λ a. (λ x. subst (λ (y : ℕ). In a y) (p .modes) x, λ x. subst⁻¹ (λ (y : ℕ). In a y) (p .modes) x);
+            modes = λ a _. (λ x. subst (λ (y : ℕ). In a y) (p .modes) x, λ x. subst⁻¹ (λ (y : ℕ). In a y) (p .modes) x);
           };
       boards = λ i j a b (m, x, y).
           (m, le .each i (omega (arith, le .count)) .boards m x, le .each j (omega (arith, le .count)) .boards m y);
@@ -157,7 +162,7 @@ module _ (T S : Table) (okT : Accepted T) (okS : Accepted S) (le : Better T S) w
   -- whatever the dates at which the cycles start: "what fits the boards of the first fits those of the second, what arrives in the first
   -- arrives in the second"
   pub better-boards : (d : ℕ → ℕ) → BoardsRightAt T d → BoardsRightAt S d
-  better-boards = carry-boards S T (λ i. i) (λ i. i) (λ a. a) (better-carry T S le)
+  better-boards = carry-boards S T (λ i. i) (λ i. i) (λ a. a) (better-carry T S le) okS
 
   pub better-values : (d : ℕ → ℕ) → ValuesRightAt T d → ValuesRightAt S d
   better-values = carry-values S T (λ i. i) (λ i. i) (λ a. a) (better-carry T S le) okS okT

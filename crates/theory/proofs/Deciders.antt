@@ -1,7 +1,7 @@
 -- Document 02, No. 4: which operation EARLY names; and the deciders of a run: they come one after the other, and what depends on the mode waits for
 -- its own.
 -- Assumes nothing.
-use Prim.Native.Nat.{ℕ, zero, suc, _+_, _*_, _<_, _≤_}
+use Prim.Native.Nat.{ℕ, suc, _+_, _*_, _<_, _≤_}
 use mathlib.Core.Path.{_≡_, sym, ap, subst, _∙_}
 use mathlib.Core.Bool.{not}
 use mathlib.Core.List.{List}
@@ -16,8 +16,8 @@ use Rattle.rules.specs.Judge.{always, early, earlyTest}
 use Rattle.theory.specs.Deciders.{FirstEarly, itself, lowest}
 use Rattle.theory.proofs.Order.{later}
 use Rattle.theory.proofs.Says.{says-false, says-not}
-use Rattle.theory.proofs.Sets.{some-in, in-small}
-use Rattle.theory.proofs.Exists.{followers-lt}
+use Rattle.theory.proofs.Sets.{some-in}
+use Rattle.theory.proofs.Exists.{run-mode}
 use Rattle.theory.proofs.Verdicts.{never-refused, passes, passed, refuses, fault-refused, then-accepts, then-refuses, then-refused}
 use Rattle.theory.proofs.Early.{says-always, says-early, early-row, no-early}
 use Rattle.theory.proofs.Judging.{each-refuses, each-refused}
@@ -86,14 +86,9 @@ module _ (T : Table) (ok : Accepted T) (d : ℕ) (who : T .decider ≡ decides d
   rule = subst (λ (x : Decider). Decided T x) who (ok .decided)
 
   module _ (r : List ℕ) (run : IsRun T r) where
-    -- a run has modes of the table
-    run-mode : (k : ℕ) → k < length r → mode r k < T .modes
-    run-mode zero h = in-small (mode r 0) (T .modes) (T .first) (ok .firsts .small) (run .begins)
-    run-mode (suc k) h = in-small (mode r (suc k)) (T .modes) _ (followers-lt T ok (mode r k)) (run .goes k h)
-
     -- "It must run in every mode": so it runs in every cycle
     pub decider-runs : (k : ℕ) → k < length r → Runs T r k d
-    decider-runs k h = record { cycle = h; isOp = rule .isOp; inMode = rule .always (mode r k) (run-mode k h) }
+    decider-runs k h = record { cycle = h; isOp = rule .isOp; inMode = rule .always (mode r k) (run-mode T ok r run k h) }
 
     -- where the boards are right, whenever the cycles start, if the next does not start before
     pub decider-ends : (s : ℕ → ℕ) → BoardsRightAt T s → (k : ℕ) → suc k < length r → s k ≤ s (suc k)

@@ -11,15 +11,15 @@ use lib.Dec.{eqb}
 use lib.Pow.{pow-pos}
 use borrow.Author.Tests.{eq-eqb, ne-eqb}
 use lib.Bits.{bitOr, or-add-and, and-le-r, or-lt}
-use lib.ListN.{getD, List·getD-eq-default}
+use lib.ListN.{length, getD, List·getD-eq-default}
 use Rattle.rules.specs.Sets.{has, In, Within}
 use Rattle.rules.specs.Table.{Table, followers, Accepted}
-use Rattle.rules.specs.Runs.{BoardsRightAt, ValuesRightAt, Right, spaced, IsPeriod}
+use Rattle.rules.specs.Runs.{mode, IsRun, BoardsRightAt, ValuesRightAt, Right, spaced, IsPeriod}
 use Rattle.theory.specs.Walks.{Reach, begin, turn, IsReach}
 use Rattle.theory.specs.Tests.{step, close, reachSet, boardsFine, valuesFine, rightb, firstFrom, periodOf}
 use Rattle.theory.proofs.Order.{Cmp, cmp}
 use Rattle.theory.proofs.Says.{Says, Known, holds, fails, known, clash-bool}
-use Rattle.theory.proofs.Sets.{in-or}
+use Rattle.theory.proofs.Sets.{in-or, in-small}
 use Rattle.theory.proofs.Modes.{in-step, grown}
 use Rattle.theory.proofs.Tests.{says-boards-right, says-values-right, says-right-at}
 use Rattle.theory.proofs.Values.{values-longer}
@@ -83,6 +83,11 @@ module _ (T : Table) (ok : Accepted T) where
       go (no h) =
           subst (λ (x : ℕ). x < 2 ^ T .modes) (sym (List·getD-eq-default (T .follow) 0 {n = a} (omega (arith, ok .words))))
           (pow-pos (T .modes))
+
+  -- a run has modes of the table
+  pub run-mode : (r : List ℕ) → IsRun T r → (k : ℕ) → k < length r → mode r k < T .modes
+  run-mode r run zero h = in-small (mode r 0) (T .modes) (T .first) (ok .firsts .small) (run .begins)
+  run-mode r run (suc k) h = in-small (mode r (suc k)) (T .modes) _ (followers-lt (mode r k)) (run .goes k h)
 
   -- a set that has the first modes, and to which a turn adds nothing, has all that a run can reach
   shut-in : (s : ℕ) → Within (T .first) s → bitOr s (step (T .follow) s) ≡ s → {b : ℕ} → Reach T b → In b s

@@ -11,6 +11,8 @@ pub mod Tests
 pub mod Exists
 pub mod Verdicts
 pub mod Carry
+pub mod OneToOne
+pub mod Alike
 pub mod Ranges
 pub mod Early
 pub mod Judging
@@ -20,6 +22,7 @@ pub mod Bounded
 pub mod Bytes
 pub mod Numbers
 pub mod Replies
+pub mod Renamed
 pub mod Blamed
 pub mod Text
 pub mod Asking

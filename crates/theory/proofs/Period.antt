@@ -42,7 +42,7 @@ race-sym {o} {u} c =
     }
 
 module _ (T : Table) (ok : Accepted T) where
-  never-clash : (i j : ℕ) → i < nops T → j < nops T → (i ≡ j → ⊥) → Clash (op T i) (op T j) → ⊥
+  pub never-clash : (i j : ℕ) → i < nops T → j < nops T → (i ≡ j → ⊥) → Clash (op T i) (op T j) → ⊥
   never-clash i j hi hj ne c = go (cmp i j)
     where
       go : Cmp i j → ⊥

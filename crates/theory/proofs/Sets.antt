@@ -108,7 +108,7 @@ some-from (suc f) s h p = go (ℕ-discrete (s % 2) 1) (λ q. some-from f (s / 2)
 pub some-in : (s : ℕ) → 0 < s → (m : ℕ) × In m s
 some-in s = some-from s s (omega arith)
 
-in-pos : (m s : ℕ) → In m s → 0 < s
+pub in-pos : (m s : ℕ) → In m s → 0 < s
 in-pos m zero h = absurd (in-none m h)
 in-pos m (suc s) h = omega arith
 

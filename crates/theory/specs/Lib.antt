@@ -10,3 +10,4 @@ pub mod DeciderBefore
 pub mod Numbers
 pub mod Blamed
 pub mod HoldBefore
+pub mod Renamed
