@@ -33,6 +33,7 @@ pub mod Saying
 pub mod Copies
 pub mod RoundTrip
 pub mod Keeps
+pub mod Sorted
 pub mod Margins
 pub mod DeciderBefore
 pub mod Holds
