@@ -14,8 +14,8 @@ use Rattle.rules.specs.Sets.{has, In}
 use Rattle.rules.specs.Table.{Op, Table, noOp, nops, op, endOf, Accepted}
 use Rattle.theory.specs.Tests.{without, step, modesOf, writers, lastIn, freshIn}
 use Rattle.theory.proofs.Says.{says-itself, says-and}
+use Rattle.theory.proofs.Sets.{same-members}
 use Rattle.theory.proofs.Modes.{in-cond, in-step, in-modes}
-use Rattle.sets.specs.Laws.{same-members}
 use Rattle.sets.specs.Members.{walk-on, step-none}
 use Rattle.columns.specs.Columns.{opBy, Columns}
 use Rattle.columns.specs.ColumnLaws.{op-there}

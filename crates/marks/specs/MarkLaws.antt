@@ -11,8 +11,8 @@ use lib.ListN.{length, set, length-set}
 use lib.Seq.{getD-set-same, getD-set-other}
 use Rattle.rules.specs.Sets.{In, Within, Overlap}
 use Rattle.theory.specs.Tests.{without}
-use Rattle.theory.proofs.Sets.{in-none, in-without}
-use Rattle.sets.specs.Members.{Past, past-none, past-all, past-more, in-rest, in-single}
+use Rattle.theory.proofs.Sets.{in-none, in-without, in-single}
+use Rattle.sets.specs.Members.{Past, past-none, past-all, past-more, in-rest}
 use Rattle.columns.specs.Columns.{opBy}
 use Rattle.raises.specs.Raises.{Raised, InTime}
 use Rattle.marks.specs.Marks.{Marked, Adds, Near, Keeps, Hits}

@@ -63,7 +63,7 @@ unfolding backed
 one-to-one P f g m e =
     record {
       there = λ a x. ltb-true (f a) m (both (ltb (f a) m) (eqb (g (f a)) a) (e a x) .0);
-      apart = λ a b x y same. sym (back a x) ∙ ap g same ∙ back b y;
+      apart = λ a b x y same. omega (arith, back a x, back b y, ap g same);
     }
   where
     back : (a : ℕ) → P a → g (f a) ≡ a
@@ -102,6 +102,16 @@ numbersb : Op → Op → Bool
 numbersb o u =
     eqb (u .start) (o .start) && (eqb (u .dur) (o .dur) && (eqb (u .hold) (o .hold) && (eqb (u .reads) (o .reads) && eqb (u .writes) (o .writes))))
 
+same-numbers : (o u : Op) → numbersb o u ≡ true
+    → (u .start ≡ o .start) × (u .dur ≡ o .dur) × (u .hold ≡ o .hold) × (u .reads ≡ o .reads) × (u .writes ≡ o .writes)
+unfolding numbersb
+same-numbers o u e =
+    let (start, rest) = both _ _ e in
+    let (dur, rest) = both _ _ rest in
+    let (hold, rest) = both _ _ rest in
+    let (reads, writes) = both _ _ rest in
+    (eqb-true _ _ start, eqb-true _ _ dur, eqb-true _ _ hold, eqb-true _ _ reads, eqb-true _ _ writes)
+
 module _ (by back : Names) (n m : ℕ) (S T : Table) where
   modeSet : ℕ → ℕ → Bool
   unfolding renames
@@ -135,20 +145,17 @@ module _ (by back : Names) (n m : ℕ) (S T : Table) where
         let (g, j) = both _ _ e in (c, d, g, j, f)
 
     each-op : (i : ℕ) → i < nops S → OpRenamed by (op S i) (op T (by .place i))
-    unfolding numbersb modeSet
+    unfolding modeSet
     each-op i h =
         let (numbers, placed, boards, modes, named) = opParts i h in
-        let (start, rest) = both _ _ numbers in
-        let (dur, rest) = both _ _ rest in
-        let (hold, rest) = both _ _ rest in
-        let (reads, writes) = both _ _ rest in
+        let (start, dur, hold, reads, writes) = same-numbers (op S i) (op T (by .place i)) numbers in
         record {
-          start = eqb-true _ _ start;
-          dur = eqb-true _ _ dur;
-          hold = eqb-true _ _ hold;
+          start = omega arith;
+          dur = omega arith;
+          hold = omega arith;
           boards = renamed-set (by .board) (back .board) n m _ _ boards;
-          reads = eqb-true _ _ reads;
-          writes = eqb-true _ _ writes;
+          reads = omega arith;
+          writes = omega arith;
           modes = renamed-set (by .mode) (back .mode) (S .modes) (T .modes) _ _ modes;
         }
 
@@ -180,7 +187,7 @@ module _ (by back : Names) (n m : ℕ) (S T : Table) where
           places = one-to-one (Below (nops S)) (by .place) (back .place) (nops T) (λ i h. opParts i h .1);
           each = each-op;
           boards = one-to-one (InUse S) (by .board) (back .board) (T .boards) used;
-          boards-high = high;
+          boards-high = omega (arith, high);
           modes = same;
           words = words;
           numbers = one-to-one (Below (S .modes)) (by .mode) (back .mode) (T .modes) numbered;

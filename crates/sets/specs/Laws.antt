@@ -1,35 +1,22 @@
 -- Laws of sets that crates above this one cite, besides those of theory/proofs/Sets, Modes and Exists.
 -- Assumes nothing.
-use Prim.Native.Nat.{ℕ, zero, suc, _*_, _/_, _%_, _^_, _<_, _≤_}
+use Prim.Native.Nat.{ℕ, zero, suc, _*_, _/_, _%_, _^_, _<_}
 use mathlib.Core.Path.{_≡_, refl, sym, _∙_}
 use mathlib.Core.Bool.{Bool, true, false, cond}
 use mathlib.Core.List.{List, [], _∷_, _++_}
-use mathlib.Core.Logic.{_↔_}
 use native.Mathlib.Nat.{one-mul}
 use native.Mathlib.Omega.{arith}
 use lib.Dec.{lit<}
 use lib.Pow.{shl-exact}
-use lib.Bits.{bitAnd, bitOr, and-le-l, and-le-r, xor-add-and}
+use lib.Bits.{bitOr}
 use lib.ListN.{replicate}
-use borrow.Author.Tests.{eqb-true}
-use Rattle.rules.specs.Sets.{has, In, Within}
-use Rattle.theory.specs.Tests.{without, step}
-use Rattle.theory.proofs.Sets.{bit, bit-or, in-bit, says-within}
+use Rattle.rules.specs.Sets.{has}
+use Rattle.theory.specs.Tests.{step}
+use Rattle.theory.proofs.Sets.{bit, bit-or, in-bit, same-members}
 
 -- 1 shifted by m bits, in a type of w bits
 pub one-shl : (w m : ℕ) → m < w → (1 * 2 ^ m) % 2 ^ w ≡ 2 ^ m
 one-shl w m h = shl-exact 1 m w (lit< tt) (omega arith) ∙ one-mul (2 ^ m)
-
--- ---- a set is known by its members
-
-pub within-le : (s t : ℕ) → Within s t → s ≤ t
-unfolding without
-within-le s t w =
-    omega
-    (arith, eqb-true (without s t) 0 (says-within s t .1 w), xor-add-and s (bitAnd s t), and-le-l s (bitAnd s t), and-le-r s (bitAnd s t), and-le-r s t)
-
-pub same-members : (s t : ℕ) → ((m : ℕ) → In m s ↔ In m t) → s ≡ t
-same-members s t h = omega (arith, within-le s t (λ m. h m .0), within-le t s (λ m. h m .1))
 
 pub or-assoc : (a b c : ℕ) → bitOr a (bitOr b c) ≡ bitOr (bitOr a b) c
 or-assoc a b c =

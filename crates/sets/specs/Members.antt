@@ -1,7 +1,7 @@
 -- The members of a set, one after the other: the lowest, by the trailing zeros, and what is left without it; and how many there are, by the ones.
 -- Assumes nothing.
 use Prim.Native.Nat.{ℕ, zero, suc, _+_, _/_, _%_, _^_, _<_, _≤_, max}
-use mathlib.Core.Path.{_≡_, refl, sym, ap, subst}
+use mathlib.Core.Path.{_≡_, refl, sym, subst}
 use mathlib.Core.Logic.{_↔_, _⊎_, inl, inr}
 use mathlib.Core.List.{List}
 use native.Mathlib.Nat.{pow-suc}
@@ -13,9 +13,9 @@ use lib.Count.{trailingZeros, ones, ones-step}
 use lib.ListN.{getD}
 use Rattle.rules.specs.Sets.{In, Within}
 use Rattle.theory.specs.Tests.{without, step}
-use Rattle.theory.proofs.Sets.{in-none, in-zero, in-suc, in-or, in-without}
+use Rattle.theory.proofs.Sets.{in-zero, in-suc, in-or, in-without, within-le, same-members, in-single}
 use Rattle.theory.proofs.Modes.{in-step}
-use Rattle.sets.specs.Laws.{within-le, same-members, or-assoc}
+use Rattle.sets.specs.Laws.{or-assoc}
 
 -- ---- the lowest member
 
@@ -42,17 +42,6 @@ lowest-is (suc w) s p h = go (ℕ-discrete (s % 2) 1) (λ q. lowest-is w (s / 2)
         first-after l (suc j) x = omega (arith, l .first j (in-suc s j .0 x))
 
 -- ---- what is left without a member
-
-pub in-single : (m k : ℕ) → In m (2 ^ k) ↔ m ≡ k
-in-single zero zero = (λ h. refl, λ e. in-zero 1 .1 refl)
-in-single zero (suc k) = (λ h. absurd (omega (arith, in-zero (2 ^ suc k) .0 h, pow-suc 2 k)), λ e. absurd (omega arith))
-in-single (suc m) zero = (λ h. absurd (in-none m (in-suc 1 m .0 h)), λ e. absurd (omega arith))
-in-single (suc m) (suc k) =
-    let half : 2 ^ suc k / 2 ≡ 2 ^ k = omega (arith, pow-suc 2 k) in
-    let (fwd, bwd) = in-single m k in (
-      λ h. ap suc (fwd (rw half at (in-suc (2 ^ suc k) m .0 h))),
-      λ e. let d : m ≡ k = omega arith in in-suc (2 ^ suc k) m .1 (rw half (bwd d)),
-    )
 
 module _ (s m : ℕ) (here : In m s) where
   -- the others stay

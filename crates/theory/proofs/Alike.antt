@@ -2,7 +2,7 @@
 -- the theorem that demand 3 is proved by, used both ways.
 -- Assumes nothing.
 use Prim.Native.Nat.{ℕ, _<_}
-use mathlib.Core.Path.{_≡_, sym, ap, subst, subst⁻¹, _∙_}
+use mathlib.Core.Path.{sym, ap, subst, subst⁻¹, _∙_}
 use mathlib.Core.Logic.{_↔_, inl, inr}
 use native.Mathlib.Decide.{decLt}
 use native.Mathlib.Omega.{arith}
@@ -37,10 +37,10 @@ module _ (S T : Table) (s t f g : ℕ → ℕ) (c : Alike S T s t f g) where
   boards-back : (u v : ℕ) → u < nops T → v < nops T → Share (op T u .boards) (op T v .boards) ↔ Share (op S (t u) .boards) (op S (t v) .boards)
   boards-back u v a b =
       let (to, from) =
-          subst (λ (k : ℕ). Share (op S (t u) .boards) (op S (t v) .boards) ↔ Share (op T k .boards) (op T v .boards)) (c .onto u a)
-          (subst (λ (k : ℕ). Share (op S (t u) .boards) (op S (t v) .boards) ↔ Share (op T (s (t u)) .boards) (op T k .boards)) (c .onto v b)
-          (c .boards (t u) (t v) (c .back u a) (c .back v b)))
-          in
+      subst (λ (k : ℕ). Share (op S (t u) .boards) (op S (t v) .boards) ↔ Share (op T k .boards) (op T v .boards)) (c .onto u a)
+      (subst (λ (k : ℕ). Share (op S (t u) .boards) (op S (t v) .boards) ↔ Share (op T (s (t u)) .boards) (op T k .boards)) (c .onto v b)
+      (c .boards (t u) (t v) (c .back u a) (c .back v b)))
+      in
       (from, to)
 
   first-back : (b : ℕ) → b < T .modes → In b (T .first) ↔ In (g b) (S .first)
@@ -51,10 +51,10 @@ module _ (S T : Table) (s t f g : ℕ → ℕ) (c : Alike S T s t f g) where
   turns-back : (a b : ℕ) → a < T .modes → b < T .modes → Turn T a b ↔ Turn S (g a) (g b)
   turns-back a b x y =
       let (to, from) =
-          subst (λ (k : ℕ). Turn S (g a) (g b) ↔ Turn T k b) (c .mode-onto a x)
-          (subst (λ (k : ℕ). Turn S (g a) (g b) ↔ Turn T (f (g a)) k) (c .mode-onto b y)
-          (c .turns (g a) (g b) (c .mode-back a x) (c .mode-back b y)))
-          in
+      subst (λ (k : ℕ). Turn S (g a) (g b) ↔ Turn T k b) (c .mode-onto a x)
+      (subst (λ (k : ℕ). Turn S (g a) (g b) ↔ Turn T (f (g a)) k) (c .mode-onto b y)
+      (c .turns (g a) (g b) (c .mode-back a x) (c .mode-back b y)))
+      in
       (from, to)
 
   pub turned : Alike T S t s g f

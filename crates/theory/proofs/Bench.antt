@@ -8,7 +8,7 @@ use Rattle.rules.specs.Rows.{Reply, margin}
 use Rattle.rules.specs.Verdicts.{Verdict, accepted, _then_, onwards}
 use Rattle.rules.specs.Judge.{judge}
 use Rattle.rules.specs.Answers.{ReplyTo, BoardsFit, ValuesArrive, marginTest}
-use Rattle.rules.specs.Bench.{Case, replies, margins, fits, arrives, Holds, All, bench, deciderBench, holdBench}
+use Rattle.rules.specs.Bench.{Case, replies, margins, fits, arrives, Holds, All, bench, deciderBench, holdBench, renamedBench}
 use Rattle.theory.specs.Tests.{planOf, boardsAnswer, valuesAnswer}
 use Rattle.theory.proofs.Answering.{reply-found, boards-found, values-found}
 
@@ -71,3 +71,11 @@ hold-computes = refl
 
 pub hold-bench-holds : All Holds holdBench
 hold-bench-holds = all-computed holdBench hold-computes
+
+-- document 02, No. 12: tables before and after, and refused ones
+renamed-computes : map computed renamedBench ≡ map expected renamedBench
+unfolding computed expected renamedBench
+renamed-computes = refl
+
+pub renamed-bench-holds : All Holds renamedBench
+renamed-bench-holds = all-computed renamedBench renamed-computes

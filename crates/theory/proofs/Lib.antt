@@ -23,6 +23,7 @@ pub mod Bytes
 pub mod Numbers
 pub mod Replies
 pub mod Renamed
+pub mod RenamedTable
 pub mod Blamed
 pub mod Text
 pub mod Asking

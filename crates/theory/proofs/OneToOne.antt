@@ -2,7 +2,7 @@
 -- Assumes nothing.
 use Prim.Native.Nat.{ℕ, zero, suc, _/_, _^_, _<_, _≤_}
 use mathlib.Core.Path.{_≡_, refl, sym, ap, subst, _∙_}
-use mathlib.Core.Bool.{Bool, cond}
+use mathlib.Core.Bool.{cond}
 use mathlib.Core.Logic.{_↔_}
 use native.Mathlib.Decide.{ℕ-discrete, decLt}
 use native.Mathlib.Nat.{pow-suc}
@@ -13,7 +13,7 @@ use Rattle.rules.specs.Sets.{In, Share}
 use Rattle.rules.specs.Table.{SetOf}
 use Rattle.rules.specs.Renamed.{OneToOne, Below, RenamedSet}
 use Rattle.theory.specs.Renamed.{found}
-use Rattle.theory.proofs.Sets.{in-zero, in-suc, some-in, in-pos}
+use Rattle.theory.proofs.Sets.{in-suc, some-in, in-pos}
 
 -- ---- no more numbers than there are names
 

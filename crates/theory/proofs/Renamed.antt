@@ -13,7 +13,7 @@ use Rattle.rules.specs.Sets.{In}
 use Rattle.rules.specs.Table.{Op, Decider, nobody, decides, Table, nops, noOp, op, followers, endOf, Decided, SetOf, OpOk, Accepted}
 use Rattle.rules.specs.Runs.{BoardsRightAt, ValuesRightAt, RightAt, IsPeriod}
 use Rattle.rules.specs.Rows.{Reply, ticks, foldAt, replyOf, margin}
-use Rattle.rules.specs.Renamed.{Names, OneToOne, Below, InUse, following, Renamed, noRow, Moved}
+use Rattle.rules.specs.Renamed.{Names, OneToOne, Below, InUse, following, Renamed, inOrder, boardsBy, modesBy, noRow, Moved}
 use Rattle.theory.specs.Renamed.{found, OpAlike, Alike}
 use Rattle.theory.proofs.Sets.{some-in, in-small}
 use Rattle.theory.proofs.Period.{never-clash, never-race}
@@ -30,10 +30,10 @@ row-of (o ∷ os) q (suc i) h = row-of os q i (omega arith)
 module _ (by : Names) (S T : Table) (ok : Accepted S) (re : Renamed by S T) where
   -- ---- the two tables are alike, by maps that take back
 
-  abbrev placeBack : ℕ → ℕ
+  abbrev pub placeBack : ℕ → ℕ
   placeBack = found (by .place) (nops S)
 
-  abbrev modeBack : ℕ → ℕ
+  abbrev pub modeBack : ℕ → ℕ
   modeBack = found (by .mode) (S .modes)
 
   one-place : OneToOne (Below (nops S)) (Below (nops S)) (by .place)
@@ -42,10 +42,10 @@ module _ (by : Names) (S T : Table) (ok : Accepted S) (re : Renamed by S T) wher
   one-mode : OneToOne (Below (S .modes)) (Below (S .modes)) (by .mode)
   one-mode = subst (λ (n : ℕ). OneToOne (Below (S .modes)) (Below n) (by .mode)) (re .modes) (re .numbers)
 
-  from-place : (u : ℕ) → u < nops T → (placeBack u < nops S) × (by .place (placeBack u) ≡ u)
+  pub from-place : (u : ℕ) → u < nops T → (placeBack u < nops S) × (by .place (placeBack u) ≡ u)
   from-place u h = name-found (nops S) (by .place) one-place u (omega (arith, h, re .count))
 
-  from-mode : (b : ℕ) → b < T .modes → (modeBack b < S .modes) × (by .mode (modeBack b) ≡ b)
+  pub from-mode : (b : ℕ) → b < T .modes → (modeBack b < S .modes) × (by .mode (modeBack b) ≡ b)
   from-mode b h = name-found (S .modes) (by .mode) one-mode b (omega (arith, h, re .modes))
 
   op-modes : (i : ℕ) → i < nops S → (a : ℕ) → In a (op S i .modes) → a < S .modes
@@ -206,8 +206,33 @@ module _ (by : Names) (S T : Table) (ok : Accepted S) (re : Renamed by S T) wher
       ap (λ (e : ℕ). pos (n * q) -ℤ (pos e -ℤ pos (op T (by .place j) .start))) end
       ∙ ap (λ (t : ℕ). pos (n * q) -ℤ (pos (endOf (op S i)) -ℤ pos t)) (re .each j hj .start)
 
--- ---- where the operations stay where they are, so do the rows
-pub same-rows : (R U : Reply) → Moved (λ i. i) R U → U ≡ R
+-- ---- each of the three by itself
+
+-- where the operations stay where they are, so do the rows
+same-rows : (R U : Reply) → Moved (λ i. i) R U → U ≡ R
 same-rows R U x =
     let rows = ext-getD noRow (U .rows) (R .rows) (x .count) (λ i h. x .each i (omega (arith, h, x .count))) in
     λ k. record { period = x .period k; rows = rows k }
+
+-- accepted, and the same periods
+abbrev Kept : Table → Table → Type 0
+Kept S T = Accepted T × ((q : ℕ) → IsPeriod S q ↔ IsPeriod T q)
+
+module _ (f : ℕ → ℕ) (S T : Table) (ok : Accepted S) where
+  -- "listing its operations in another order": "moves each folded row with its operation"
+  pub order-kept : Renamed (inOrder f) S T → Kept S T × ((q : ℕ) → Moved f (replyOf S q) (replyOf T q))
+  order-kept re = ((renamed-accepted (inOrder f) S T ok re, renamed-period (inOrder f) S T ok re), renamed-rows (inOrder f) S T ok re)
+
+  -- "renaming its boards one to one": the same rows
+  pub boards-kept : Renamed (boardsBy f) S T → Kept S T × ((q : ℕ) → replyOf T q ≡ replyOf S q)
+  boards-kept re = (
+    (renamed-accepted (boardsBy f) S T ok re, renamed-period (boardsBy f) S T ok re),
+    λ q. same-rows (replyOf S q) (replyOf T q) (renamed-rows (boardsBy f) S T ok re q),
+  )
+
+  -- "Mode numbers renamed one to one .. also leave the period and rows."
+  pub modes-kept : Renamed (modesBy f) S T → Kept S T × ((q : ℕ) → replyOf T q ≡ replyOf S q)
+  modes-kept re = (
+    (renamed-accepted (modesBy f) S T ok re, renamed-period (modesBy f) S T ok re),
+    λ q. same-rows (replyOf S q) (replyOf T q) (renamed-rows (modesBy f) S T ok re q),
+  )

@@ -1,14 +1,15 @@
 -- The members of sets that are numbers: what the bit operations do to them.
 -- Assumes nothing.
 use Prim.Native.Nat.{ℕ, zero, suc, _+_, _*_, _/_, _%_, _^_, _<_, _≤_, min, max}
-use mathlib.Core.Path.{_≡_, sym, ap, subst, _∙_}
+use mathlib.Core.Path.{_≡_, refl, sym, ap, subst, _∙_}
 use mathlib.Core.Logic.{_↔_, _⊎_, inl, inr}
 use native.Mathlib.Nat.{div-one, div-div-eq-div-mul, pow-suc, mul-comm, div-eq-of-lt, zero-div, zero-min, min-zero, suc-min-suc}
 use native.Mathlib.Decide.{ℕ-discrete}
 use native.Mathlib.Omega.{arith}
 use lib.Dec.{eqb}
 use lib.Pow.{pow-mono}
-use lib.Bits.{bitAnd, bitOr, bitXor, differ, and-step, or-step, xor-step, and-shr, or-shr, xor-shr}
+use borrow.Author.Tests.{eqb-true}
+use lib.Bits.{bitAnd, bitOr, bitXor, differ, and-step, or-step, xor-step, and-shr, or-shr, xor-shr, and-le-l, and-le-r, xor-add-and}
 use Rattle.rules.specs.Sets.{has, In, Share, Within, shares}
 use Rattle.theory.specs.Tests.{without}
 use Rattle.theory.proofs.Says.{Says, says-by, says-eqb, says-not}
@@ -149,3 +150,26 @@ says-within s t = says-by (says-eqb (without s t) 0) fwd bwd
         go (no e) =
             let (m, x) = some-in (without s t) (omega arith) in
             absurd (in-without m s t .0 x .1 (w m (in-without m s t .0 x .0)))
+
+-- ---- a set is known by its members
+
+pub within-le : (s t : ℕ) → Within s t → s ≤ t
+unfolding without
+within-le s t w =
+    omega
+    (arith, eqb-true (without s t) 0 (says-within s t .1 w), xor-add-and s (bitAnd s t), and-le-l s (bitAnd s t), and-le-r s (bitAnd s t), and-le-r s t)
+
+pub same-members : (s t : ℕ) → ((m : ℕ) → In m s ↔ In m t) → s ≡ t
+same-members s t h = omega (arith, within-le s t (λ m. h m .0), within-le t s (λ m. h m .1))
+
+-- the set with one member
+pub in-single : (m k : ℕ) → In m (2 ^ k) ↔ m ≡ k
+in-single zero zero = (λ h. refl, λ e. in-zero 1 .1 refl)
+in-single zero (suc k) = (λ h. absurd (omega (arith, in-zero (2 ^ suc k) .0 h, pow-suc 2 k)), λ e. absurd (omega arith))
+in-single (suc m) zero = (λ h. absurd (in-none m (in-suc 1 m .0 h)), λ e. absurd (omega arith))
+in-single (suc m) (suc k) =
+    let half : 2 ^ suc k / 2 ≡ 2 ^ k = omega (arith, pow-suc 2 k) in
+    let (fwd, bwd) = in-single m k in (
+      λ h. ap suc (fwd (rw half at (in-suc (2 ^ suc k) m .0 h))),
+      λ e. let d : m ≡ k = omega arith in in-suc (2 ^ suc k) m .1 (rw half (bwd d)),
+    )

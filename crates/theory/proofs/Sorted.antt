@@ -19,7 +19,8 @@ use Rattle.rules.specs.Renamed.{Names, Renamed, Moved}
 use Rattle.rules.specs.Verdicts.{Verdict, accepted, Test, _then_}
 use Rattle.rules.specs.Bytes.{tableBytes, replyBytes}
 use Rattle.rules.specs.Judge.{judge}
-use Rattle.rules.specs.Answers.{Written, Answers, Planned, ReplyTo, IsPlan, asked, periodAsked, marginTest, IsMargin, IsPeriodOf, askedTable, YesFor, YesNo, Fit, BoardsFit, Arrive, ValuesArrive}
+use Rattle.rules.specs.Text.{replyText, textOf}
+use Rattle.rules.specs.Answers.{Written, Answers, Planned, ReplyTo, IsPlan, IsText, asked, periodAsked, marginTest, IsMargin, IsPeriodOf, askedTable, YesFor, YesNo, Fit, BoardsFit, Arrive, ValuesArrive}
 use Rattle.theory.proofs.Verdicts.{never-refused, then-accepts, then-refuses, onwards-accepts}
 use Rattle.theory.proofs.Says.{Known, known, holds, fails}
 use Rattle.theory.proofs.Period.{period-unique}
@@ -58,12 +59,19 @@ module _ (by : Names) (s : List ℕ) (S T : Table) (read : judge s ≡ accepted 
       let (q, is, e) = planned in
       let same : U ≡ S = cc (seen, read) in
       let period : IsPeriod S q = rw same at is in
-      let whole : R ≡ replyOf S q = e ∙ ap (λ (x : Table). replyOf x q) same in
-      (
+      let whole : R ≡ replyOf S q = e ∙ ap (λ (x : Table). replyOf x q) same in (
         replyOf T q,
         accepted-answers Planned sorted-read (q, renamed-period by S T (judge-accepted s S read) re q .0 period, refl),
         subst (λ (x : Reply). Moved (by .place) x (replyOf T q)) (sym whole) (renamed-rows by S T (judge-accepted s S read) re q),
       )
+
+  -- fold: the text of that reply
+  pub text-sorted : (b : List ℕ) → IsText s b → (R : Reply) × (U : Reply) × Moved (by .place) R U × (b ≡ replyText R) × IsText t (replyText U)
+  unfolding textOf
+  text-sorted b (v, x, e) =
+      let (R, planned, told) = answered-back Planned (judge s) v x read in
+      let (U, y, moved) = reply-sorted R (subst (λ (u : Verdict Reply). ReplyTo s u) told x) in
+      (R, U, moved, e ∙ ap textOf told, (accepted U, y, refl))
 
   -- plan: where it answers the first bytes, it answers the second, given room: as many bytes, the same period and the moved rows, and the rest of
   -- each buffer as it was
@@ -82,16 +90,15 @@ module _ (by : Names) (s : List ℕ) (S T : Table) (read : judge s ≡ accepted 
           let size : 5 + 7 * nops S ≡ n = cc (told, done) in
           let size′ : 5 + 7 * nops T ≡ n = omega (arith, size, re .count) in
           let (p, is′, told′, wrote′) = plan-replies t out′ T x sorted-read (omega arith) plan′ in
-          let same : p ≡ q = period-unique T p q is′ (renamed-period by S T ok re q .0 is) in
-          (
+          let same : p ≡ q = period-unique T p q is′ (renamed-period by S T ok re q .0 is) in (
             replyOf S q,
             replyOf T q,
             renamed-rows by S T ok re q,
             wrote ∙ ap (λ (k : ℕ). replyBytes (replyOf S q) ++ drop k out) size,
             told′ ∙ ap accepted size′,
             wrote′
-            ∙ ap (λ (k : ℕ). replyBytes (replyOf T p) ++ drop k out′) size′
-            ∙ ap (λ (k : ℕ). replyBytes (replyOf T k) ++ drop n out′) same,
+                ∙ ap (λ (k : ℕ). replyBytes (replyOf T p) ++ drop k out′) size′
+                ∙ ap (λ (k : ℕ). replyBytes (replyOf T k) ++ drop n out′) same,
           )
 
   -- the two questions of document 02, No. 10: the same answer for every q, ASK included

@@ -1,12 +1,16 @@
--- What document 02, No. 12 is proved by: a map taken back, and two tables that are alike, each by the other's names.
+-- What document 02, No. 12 is proved by: a map taken back; two tables that are alike, each by the other's names; and the table that three maps give.
 -- Assumes nothing.
-use Prim.Native.Nat.{ℕ, zero, suc, _<_}
+use Prim.Native.Nat.{ℕ, zero, suc, _^_, _<_}
 use mathlib.Core.Path.{_≡_}
 use mathlib.Core.Bool.{cond}
+use mathlib.Core.List.{List}
 use mathlib.Core.Logic.{_↔_}
+use lib.Bits.{bitOr}
 use lib.Dec.{eqb}
-use Rattle.rules.specs.Sets.{In, Share}
-use Rattle.rules.specs.Table.{Op, Table, nops, op, Turn}
+use lib.ListN.{set}
+use Rattle.rules.specs.Sets.{has, In, Share}
+use Rattle.rules.specs.Table.{Op, Table, nops, op, followers, Turn}
+use Rattle.rules.specs.Renamed.{Names, following}
 
 -- the number below n that f takes to u; 0 where there is none
 unfoldable pub found : (ℕ → ℕ) → ℕ → ℕ → ℕ
@@ -38,3 +42,43 @@ pub record Alike (S T : Table) (s t f g : ℕ → ℕ) : Type 0 where
   pub mode-onto : (b : ℕ) → b < T .modes → f (g b) ≡ b
   pub first : (a : ℕ) → a < S .modes → In a (S .first) ↔ In (f a) (T .first)
   pub turns : (a b : ℕ) → a < S .modes → b < S .modes → Turn S a b ↔ Turn T (f a) (f b)
+
+-- ---- the table that the maps give
+
+-- the set of the new names of the members of s that are below n
+unfoldable pub image : (ℕ → ℕ) → ℕ → ℕ → ℕ
+unfolding has
+image f zero s = 0
+image f (suc n) s = bitOr (cond (has s n) (2 ^ f n) 0) (image f n s)
+
+-- xs with g i put at f i, for each i below n
+unfoldable pub spread : {A : Type 0} → (ℕ → ℕ) → (ℕ → A) → ℕ → List A → List A
+spread f g zero xs = xs
+spread f g (suc n) xs = set (spread f g n xs) (f n) (g n)
+
+abbrev pub renamedOp : Names → Table → Op → Op
+renamedOp by T o =
+    record {
+      start = o .start;
+      dur = o .dur;
+      hold = o .hold;
+      boards = image (by .board) (T .boards) (o .boards);
+      reads = o .reads;
+      writes = o .writes;
+      modes = image (by .mode) (T .modes) (o .modes);
+    }
+
+-- with n boards
+unfoldable pub renamedTable : Names → ℕ → Table → Table
+unfolding image spread
+renamedTable by n T =
+    record {
+      len = T .len;
+      boards = n;
+      cells = T .cells;
+      modes = T .modes;
+      first = image (by .mode) (T .modes) (T .first);
+      follow = spread (by .mode) (λ a. image (by .mode) (T .modes) (followers T a)) (T .modes) (T .follow);
+      ops = spread (by .place) (λ i. renamedOp by T (op T i)) (nops T) (T .ops);
+      decider = following (by .place) (T .decider);
+    }

@@ -14,11 +14,10 @@ use Rattle.rules.specs.Table as rules
 use Rattle.theory.specs.Tests.{without, step, via}
 use Rattle.theory.specs.Walks.{Reach, begin, turn, IsReach, Walk, Any}
 use Rattle.theory.proofs.Order.{Cmp, cmp}
-use Rattle.theory.proofs.Sets.{in-none, in-or}
+use Rattle.theory.proofs.Sets.{in-none, in-or, same-members, in-single}
 use Rattle.theory.proofs.Modes.{in-step, in-via, walk-map, grown}
 use Rattle.theory.proofs.Exists.{shut-reach}
-use Rattle.sets.specs.Laws.{same-members, step-pad}
-use Rattle.sets.specs.Members.{in-single}
+use Rattle.sets.specs.Laws.{step-pad}
 use Rattle.table.specs.Tables.{tableOf, padded, Good}
 use Rattle.table.specs.declared.Table.{Table}
 use Rattle.turns.specs.Turns.{tab, nextRow, SameRow, rowAfter, blockFrom, TurnsBy, TurnsOf}
