@@ -13,7 +13,7 @@ use lib.Count.{trailingZeros, ones, ones-step}
 use lib.ListN.{getD}
 use Rattle.rules.specs.Sets.{In, Within}
 use Rattle.theory.specs.Tests.{without, step}
-use Rattle.theory.proofs.Sets.{in-zero, in-suc, in-or, in-without, within-le, same-members, in-single}
+use Rattle.theory.proofs.Sets.{in-none, in-zero, in-suc, in-or, in-without, within-le, same-members, in-single}
 use Rattle.theory.proofs.Modes.{in-step}
 use Rattle.sets.specs.Laws.{or-assoc}
 
