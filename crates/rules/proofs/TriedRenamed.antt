@@ -17,7 +17,7 @@ use Rattle.rules.specs.Renamed.{Names, OneToOne, Below, RenamedSet, InUs
 use Rattle.rules.specs.Verdicts.{accepted, refused}
 use Rattle.rules.specs.Bytes.{tableBytes}
 use Rattle.rules.specs.Judge.{judge}
-use Rattle.rules.specs.Bench.{opn, held, oneMode, k2, k3, k5, k6, k7, k10, byRow, turnedRound, k2-turned, otherBoards, k3-renamed, exchanged, k5-exchanged, k7-exchanged, sorted-before, allThree, sorted, k10-turned, k10-behind, k10-before, no-such-board}
+use Rattle.rules.specs.Bench.{opn, held, oneMode, row, k1, k2, k3, k5, k6, k7, k10, byRow, turnedRound, k2-turned, otherBoards, k3-renamed, exchanged, k5-exchanged, k7-exchanged, sorted-before, allThree, sorted, k10-turned, k10-behind, k10-before, no-such-board}
 use Rattle.rules.proofs.Tried.{in-small}
 
 -- ---- tests of every number below n
@@ -226,6 +226,40 @@ sorted-is-renamed =
     renamed-by allThree (record { place = byRow (1 ∷ 2 ∷ 0 ∷ []); board = byRow (2 ∷ 0 ∷ 9 ∷ 9 ∷ 1 ∷ []); mode = byRow (1 ∷ 0 ∷ []) }) 3 5 sorted-before sorted
     refl refl refl refl refl (omega arith) refl refl refl refl
 
+-- modes that go round, 0 to 1 to 2 to 0, by a map that does not take itself back: first modes, turns and mode sets all go its way
+abbrev roundModes : (first : ℕ) → List ℕ → (m n : ℕ) → Table
+roundModes first follow m n =
+    record { len = 4; boards = 2; cells = 0; modes = 3; first = first; follow = follow; ops = opn 0 4 1 0 0 m ∷ opn 0 4 2 0 0 n ∷ []; decider = nobody }
+
+modes-go-round : Renamed (modesBy (byRow (1 ∷ 2 ∷ 0 ∷ []))) (roundModes 3 (2 ∷ 6 ∷ 1 ∷ []) 1 6) (roundModes 6 (2 ∷ 4 ∷ 5 ∷ []) 2 5)
+unfolding has opb modeb modeSet below backed numbersb renames into from
+modes-go-round =
+    renamed-by (modesBy (byRow (1 ∷ 2 ∷ 0 ∷ []))) (modesBy (byRow (2 ∷ 0 ∷ 1 ∷ []))) 2 2 (roundModes 3 (2 ∷ 6 ∷ 1 ∷ []) 1 6) (roundModes 6 (2 ∷ 4 ∷ 5 ∷ []) 2 5)
+    refl refl refl refl refl (omega arith) refl refl refl refl
+
+-- operations in another order, and boards renamed, leave two modes as they are
+k5-with : List Op → Table
+k5-with os = record { len = 4; boards = 2; cells = 0; modes = 2; first = 1; follow = 2 ∷ 1 ∷ []; ops = os; decider = nobody }
+
+k5-is-turned : Renamed (inOrder (byRow (1 ∷ 0 ∷ []))) k5 (k5-with (opn 0 4 2 0 0 2 ∷ opn 0 4 1 0 0 1 ∷ []))
+unfolding k5-with has opb modeb modeSet below backed numbersb renames into from
+k5-is-turned =
+    renamed-by (inOrder (byRow (1 ∷ 0 ∷ []))) (inOrder (byRow (1 ∷ 0 ∷ []))) 2 2 k5 (k5-with (opn 0 4 2 0 0 2 ∷ opn 0 4 1 0 0 1 ∷ []))
+    refl refl refl refl refl (omega arith) refl refl refl refl
+
+k5-other-boards : Renamed (boardsBy (byRow (1 ∷ 0 ∷ []))) k5 (k5-with (opn 0 4 2 0 0 1 ∷ opn 0 4 1 0 0 2 ∷ []))
+unfolding k5-with has opb modeb modeSet below backed numbersb renames into from
+k5-other-boards =
+    renamed-by (boardsBy (byRow (1 ∷ 0 ∷ []))) (boardsBy (byRow (1 ∷ 0 ∷ []))) 2 2 k5 (k5-with (opn 0 4 2 0 0 1 ∷ opn 0 4 1 0 0 2 ∷ []))
+    refl refl refl refl refl (omega arith) refl refl refl refl
+
+-- K1 on two boards, named 15 and 2, of sixteen
+sixteen-boards : Renamed (boardsBy (byRow (15 ∷ 2 ∷ []))) (oneMode 5 2 0 (opn 1 3 3 0 0 1 ∷ [])) (oneMode 5 16 0 (opn 1 3 32772 0 0 1 ∷ []))
+unfolding has opb modeb modeSet below backed numbersb renames into from
+sixteen-boards =
+    renamed-by (boardsBy (byRow (15 ∷ 2 ∷ []))) (boardsBy (λ b. cond (eqb b 2) 1 0)) 2 16 (oneMode 5 2 0 (opn 1 3 3 0 0 1 ∷ [])) (oneMode 5 16 0 (opn 1 3 32772 0 0 1 ∷ []))
+    refl refl refl refl refl (omega arith) refl refl refl refl
+
 -- ---- not renamed: each of these differs in one thing from what was just shown
 
 -- all at once, but for these
@@ -298,7 +332,7 @@ turn-less-not : Sorted (sortedHead 2 (2 ∷ 2 ∷ []) (decides 2)) → ⊥
 unfolding Sorted has
 turn-less-not x = false≢true (x .turns 0 (omega arith) 0 .1 (1, refl, refl))
 
--- the decider's number left behind; another; nobody
+-- the decider's number left behind; nobody
 decider-left-not : Sorted (sortedHead 2 (2 ∷ 3 ∷ []) (decides 0)) → ⊥
 unfolding Sorted
 decider-left-not x = let e = x .decider in let z : _≡_ {A = ℕ} 0 2 = cc in omega arith
@@ -307,7 +341,7 @@ decider-none-not : Sorted (sortedHead 2 (2 ∷ 3 ∷ []) nobody) → ⊥
 unfolding Sorted
 decider-none-not x = let e = x .decider in let z : _≡_ {A = ℕ} 1 0 = cc in omega arith
 
--- the operations where they were; a date, a hold, a cell more; boards and modes left behind, one more, one less
+-- the operations where they were; a date, a hold, a cell more or less; boards and modes left behind, one more
 order-left-not : Sorted (resorted 6 5 1 2 2 (2 ∷ 3 ∷ []) (held 0 2 1 2 0 1 3 ∷ opn 2 3 16 1 0 2 ∷ opn 4 1 1 1 0 1 ∷ []) (decides 2)) → ⊥
 unfolding Sorted
 order-left-not x = omega (arith, x .each 0 (omega arith) .start)
@@ -353,6 +387,67 @@ mode-set-more-not : Sorted (sortedOp (opn 2 3 16 1 0 3)) → ⊥
 unfolding Sorted has
 mode-set-more-not x = let (a, is, to) = x .each 1 (omega arith) .modes 0 .0 refl in not-zero a is to
 
+-- the same of the other two, and less where it was more: a date, a hold, a cell; boards and modes one less. Operation 2 is [4,5) on board 0 of the
+-- new names, operation 0 the one with the hold.
+abbrev sortedOthers : Op → Op → Table
+sortedOthers o u = resorted 6 5 1 2 2 (2 ∷ 3 ∷ []) (opn 2 3 16 1 0 2 ∷ o ∷ u ∷ []) (decides 2)
+
+start-less-not : Sorted (sortedOthers (opn 3 1 1 1 0 1) (held 0 2 1 2 0 1 3)) → ⊥
+unfolding Sorted
+start-less-not x = omega (arith, x .each 2 (omega arith) .start)
+
+dur-more-not : Sorted (sortedOthers (opn 4 2 1 1 0 1) (held 0 2 1 2 0 1 3)) → ⊥
+unfolding Sorted
+dur-more-not x = omega (arith, x .each 2 (omega arith) .dur)
+
+hold-less-not : Sorted (sortedOthers (opn 4 1 1 1 0 1) (held 0 2 0 2 0 1 3)) → ⊥
+unfolding Sorted
+hold-less-not x = omega (arith, x .each 0 (omega arith) .hold)
+
+reads-more-not : Sorted (sortedOthers (opn 4 1 1 1 0 1) (held 0 2 1 2 1 1 3)) → ⊥
+unfolding Sorted
+reads-more-not x = omega (arith, x .each 0 (omega arith) .reads)
+
+writes-less-not : Sorted (sortedOthers (opn 4 1 1 1 0 1) (held 0 2 1 2 0 0 3)) → ⊥
+unfolding Sorted
+writes-less-not x = omega (arith, x .each 0 (omega arith) .writes)
+
+board-less-not : Sorted (sortedOthers (opn 4 1 0 1 0 1) (held 0 2 1 2 0 1 3)) → ⊥
+unfolding Sorted has
+board-less-not x = false≢true (x .each 2 (omega arith) .boards 0 .1 (2, refl, refl))
+
+mode-set-less-not : Sorted (sortedOthers (opn 4 1 1 1 0 1) (held 0 2 1 2 0 1 1)) → ⊥
+unfolding Sorted has
+mode-set-less-not x = false≢true (x .each 0 (omega arith) .modes 1 .1 (0, refl, refl))
+
+-- a shorter length, a cell less, a word less; no first mode; a decider where nobody decided
+len-less-not : Sorted (resorted 5 5 1 2 2 (2 ∷ 3 ∷ []) (sorted .ops) (decides 2)) → ⊥
+unfolding Sorted
+len-less-not x = omega (arith, x .len)
+
+cells-less-not : Sorted (resorted 6 5 0 2 2 (2 ∷ 3 ∷ []) (sorted .ops) (decides 2)) → ⊥
+unfolding Sorted
+cells-less-not x = omega (arith, x .cells)
+
+word-less-not : Renamed (inOrder (λ i. i)) (resorted 5 1 0 1 1 (1 ∷ 0 ∷ []) (k1 .ops) nobody) k1 → ⊥
+word-less-not x = omega (arith, x .words)
+
+first-less-not : Sorted (sortedHead 0 (2 ∷ 3 ∷ []) (decides 2)) → ⊥
+unfolding Sorted has
+first-less-not x = false≢true (x .firsts 1 .1 (0, refl, refl))
+
+decider-other-not : Sorted (sortedHead 2 (2 ∷ 3 ∷ []) (decides 1)) → ⊥
+unfolding Sorted
+decider-other-not x = let e = x .decider in let z : _≡_ {A = ℕ} 1 2 = cc in omega arith
+
+decider-new-not : Renamed turnedRound k2 (resorted 6 3 2 1 1 (1 ∷ []) (k2-turned .ops) (decides 2)) → ⊥
+decider-new-not x = let e = x .decider in let z : _≡_ {A = ℕ} 1 0 = cc in omega arith
+
+-- a member beyond every count
+member-beyond-not : RenamedSet (λ a. a) 0 (2 ^ 32) → ⊥
+unfolding has
+member-beyond-not x = let (a, is, to) = x 32 .0 refl in in-small 0 0 a (omega arith) (omega arith) is
+
 -- ---- maps that are not one to one: two boards, two modes, two operations to one; a name beyond the count
 
 -- K4 on two boards, and on one
@@ -360,7 +455,7 @@ two-boards-not : Renamed (boardsBy (byRow (0 ∷ 0 ∷ []))) (oneMode 4 2 0 (opn
 unfolding has
 two-boards-not x = omega (arith, x .boards .apart 0 1 (0, omega arith, refl) (1, omega arith, refl) refl)
 
--- K6's modes made one, and the other follows itself
+-- K6 with its modes, or its operations, made one
 two-modes-not : (T : Table) → Renamed (modesBy (byRow (0 ∷ 0 ∷ []))) k6 T → ⊥
 two-modes-not T x = omega (arith, x .numbers .apart 0 1 (omega arith) (omega arith) refl)
 
@@ -373,10 +468,30 @@ mode-beyond-not x = omega (arith, x .numbers .there 0 (omega arith))
 place-beyond-not : (T : Table) → Renamed (inOrder (byRow (2 ∷ 1 ∷ []))) k6 T → ⊥
 place-beyond-not T x = omega (arith, x .places .there 0 (omega arith), x .count)
 
+-- and where nothing else is wrong with it: two operations that do not differ, an operation like none, a mode that none follows. Such tables are
+-- refused: of one that is accepted these would follow from the rest.
+same-operations-not : Renamed (inOrder (byRow (0 ∷ 0 ∷ []))) (oneMode 4 1 0 (opn 0 1 1 0 0 1 ∷ opn 0 1 1 0 0 1 ∷ [])) (oneMode 4 1 0 (opn 0 1 1 0 0 1 ∷ opn 0 1 1 0 0 1 ∷ [])) → ⊥
+same-operations-not x = omega (arith, x .places .apart 0 1 (omega arith) (omega arith) refl)
+
+no-operation-not : Renamed (inOrder (byRow (1 ∷ []))) (oneMode 4 1 0 (opn 0 0 0 0 0 0 ∷ [])) (oneMode 4 1 0 (opn 3 1 1 0 0 1 ∷ [])) → ⊥
+no-operation-not x = omega (arith, x .places .there 0 (omega arith))
+
+none-follows-not : Renamed (modesBy (byRow (1 ∷ []))) (resorted 5 1 0 1 1 (0 ∷ []) (opn 1 3 1 0 0 1 ∷ []) nobody) (resorted 5 1 0 1 2 (1 ∷ []) (opn 1 3 1 0 0 2 ∷ []) nobody) → ⊥
+none-follows-not x = omega (arith, x .numbers .there 0 (omega arith))
+
+-- two modes in which no operation runs, with the same turns, are two
+idle-modes-not : Renamed (modesBy (byRow (0 ∷ 1 ∷ 1 ∷ []))) (resorted 5 1 0 3 1 (6 ∷ 1 ∷ 1 ∷ []) (k1 .ops) nobody) (resorted 5 1 0 3 1 (2 ∷ 1 ∷ 1 ∷ []) (k1 .ops) nobody) → ⊥
+idle-modes-not x = omega (arith, x .numbers .apart 1 2 (omega arith) (omega arith) refl)
+
+-- a board beyond the count that is in use needs a name within the new count too
+no-such-name-not : Renamed (boardsBy (byRow (9 ∷ 1 ∷ []))) no-such-board no-such-board → ⊥
+unfolding has
+no-such-name-not x = omega (arith, x .boards .there 1 (0, omega arith, refl))
+
 -- ---- rows that moved with their operations, and rows that did not
 k2-rows-moved : Moved (turnedRound .place) (replyOf k2 2) (replyOf k2-turned 2)
 unfolding replyOf
-k2-rows-moved = record { period = refl; count = refl; each = rows }
+k2-rows-moved = record { period = refl; count = refl; places = k2-is-turned .places; each = rows }
   where
     rows : (i : ℕ) → i < 3 → getD (replyOf k2-turned 2 .rows) (turnedRound .place i) noRow ≡ getD (replyOf k2 2 .rows) i noRow
     rows zero h = refl
@@ -386,7 +501,7 @@ k2-rows-moved = record { period = refl; count = refl; each = rows }
 
 sorted-rows-moved : Moved (allThree .place) (replyOf sorted-before 3) (replyOf sorted 3)
 unfolding replyOf
-sorted-rows-moved = record { period = refl; count = refl; each = rows }
+sorted-rows-moved = record { period = refl; count = refl; places = sorted-is-renamed .places; each = rows }
   where
     rows : (i : ℕ) → i < 3 → getD (replyOf sorted 3 .rows) (allThree .place i) noRow ≡ getD (replyOf sorted-before 3 .rows) i noRow
     rows zero h = refl
@@ -405,6 +520,30 @@ period-not x = omega (arith, ap (λ (t : Ticks). t .number) (x .period))
 row-more-not : Moved (turnedRound .place) (replyOf k2 2) (record { period = ticks 2; rows = replyOf k2-turned 2 .rows ++ (noRow ∷ []) }) → ⊥
 unfolding replyOf
 row-more-not x = omega (arith, x .count)
+
+period-less-not : Moved (turnedRound .place) (replyOf k2 2) (record { period = ticks 1; rows = replyOf k2-turned 2 .rows }) → ⊥
+unfolding replyOf
+period-less-not x = omega (arith, ap (λ (t : Ticks). t .number) (x .period))
+
+-- a row less, where the one that is gone is like what stands past the last; the last row, a row's start
+row-less-not : Moved (turnedRound .place) (replyOf k2 2) (record { period = ticks 2; rows = row 0 2 ∷ row 0 1 ∷ [] }) → ⊥
+unfolding replyOf
+row-less-not x = omega (arith, x .count)
+
+last-row-not : Moved (turnedRound .place) (replyOf k2 2) (record { period = ticks 2; rows = row 0 1 ∷ row 0 1 ∷ row 0 0 ∷ [] }) → ⊥
+unfolding replyOf
+last-row-not x = omega (arith, ap (λ (r : Row). r .fst .number) (x .each 2 (omega arith)))
+
+first-row-not : Moved (turnedRound .place) (replyOf k2 2) (record { period = ticks 2; rows = row 0 2 ∷ row 0 1 ∷ row 1 0 ∷ [] }) → ⊥
+unfolding replyOf
+first-row-not x = omega (arith, ap (λ (r : Row). r .start .number) (x .each 0 (omega arith)))
+
+-- a row at the place of another that it is like; a row past the end
+two-rows-not : Moved (λ i. 0) (record { period = ticks 2; rows = row 1 0 ∷ row 1 0 ∷ [] }) (record { period = ticks 2; rows = row 1 0 ∷ row 0 1 ∷ [] }) → ⊥
+two-rows-not x = omega (arith, x .places .apart 0 1 (omega arith) (omega arith) refl)
+
+row-beyond-not : Moved (λ i. 9) (record { period = ticks 2; rows = row 0 0 ∷ [] }) (record { period = ticks 2; rows = row 1 1 ∷ [] }) → ⊥
+row-beyond-not x = omega (arith, x .places .there 0 (omega arith))
 
 -- ---- "Nothing is claimed for refused tables": nothing could be
 

@@ -360,7 +360,7 @@ sorted =
       decider = decides 2;
     }
 
--- K10 with its operations turned round; and behind one on another board, moved to the front
+-- K10 with its operations turned round; behind one on another board; and before it
 abbrev pub k10-turned : Table
 k10-turned = oneMode 3 1 0 (opn 1 2 1 0 0 1 ∷ opn 0 2 1 0 0 1 ∷ [])
 
@@ -370,7 +370,7 @@ k10-behind = oneMode 3 2 0 (opn 0 1 2 0 0 1 ∷ opn 0 2 1 0 0 1 ∷ opn 1 2 1 0 
 abbrev pub k10-before : Table
 k10-before = oneMode 3 2 0 (opn 0 2 1 0 0 1 ∷ opn 1 2 1 0 0 1 ∷ opn 0 1 2 0 0 1 ∷ [])
 
--- an operation on board 1 of one; and the same renamed to board 0
+-- an operation on board 1 of one
 abbrev pub no-such-board : Table
 no-such-board = oneMode 3 1 0 (opn 0 2 2 0 0 1 ∷ [])
 

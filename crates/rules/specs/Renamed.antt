@@ -32,7 +32,7 @@ RenamedSet f s t = (b : ℕ) → In b t ↔ ((a : ℕ) × In a s × (f a ≡ b))
 abbrev pub InUse : Table → ℕ → Type 0
 InUse T b = (i : ℕ) × (i < nops T) × In b (op T i .boards)
 
--- an operation with its boards and modes renamed. "Dates inside a cycle are never moved", and cells keep their numbers.
+-- an operation with its boards and modes renamed. "The dates inside a cycle stay put", and cells keep their numbers.
 pub record OpRenamed (by : Names) (o u : Op) : Type 0 where
   pub start : u .start ≡ o .start
   pub dur : u .dur ≡ o .dur
@@ -64,7 +64,7 @@ pub record Renamed (by : Names) (first second : Table) : Type 0 where
   pub turns : (a : ℕ) → a < first .modes → RenamedSet (by .mode) (followers first a) (followers second (by .mode a))
   pub decider : second .decider ≡ following (by .place) (first .decider)
 
--- each case by itself: the other maps change nothing
+-- each case by itself: the other maps change nothing. (The count of boards may be another in each.)
 abbrev pub inOrder : (ℕ → ℕ) → Names
 inOrder f = record { place = f; board = λ b. b; mode = λ a. a }
 
@@ -80,8 +80,9 @@ modesBy f = record { place = λ i. i; board = λ b. b; mode = f }
 abbrev pub noRow : Row
 noRow = record { start = ticks 0; fst = cycles 0 }
 
--- the row of operation i stands at its new place
+-- the row of operation i stands at its new place, each at one of its own
 pub record Moved (place : ℕ → ℕ) (first second : Reply) : Type 0 where
   pub period : second .period ≡ first .period
   pub count : length (second .rows) ≡ length (first .rows)
+  pub places : OneToOne (Below (length (first .rows))) (Below (length (second .rows))) place
   pub each : (i : ℕ) → i < length (first .rows) → getD (second .rows) (place i) noRow ≡ getD (first .rows) i noRow

@@ -46,10 +46,10 @@ module _ (f : ℕ → ℕ) (n m : ℕ) (one : OneToOne (Below (suc n)) (Below (s
       apart a b x y e (no p) (yes q) = absurd (ne a x (sym (kept a p) ∙ e ∙ freed b q))
       apart a b x y e (no p) (no q) = one .apart a b (omega arith) (omega arith) (sym (kept a p) ∙ e ∙ kept b q)
 
-pub no-more : (n m : ℕ) (f : ℕ → ℕ) → OneToOne (Below n) (Below m) f → n ≤ m
-no-more zero m f one = omega arith
-no-more (suc n) zero f one = absurd (omega (arith, one .there 0 (omega arith)))
-no-more (suc n) (suc m) f one = let less = no-more n m (without-top f n m) (one-fewer f n m one) in omega arith
+enough-names : (n m : ℕ) (f : ℕ → ℕ) → OneToOne (Below n) (Below m) f → n ≤ m
+enough-names zero m f one = omega arith
+enough-names (suc n) zero f one = absurd (omega (arith, one .there 0 (omega arith)))
+enough-names (suc n) (suc m) f one = let less = enough-names n m (without-top f n m) (one-fewer f n m one) in omega arith
 
 -- ---- none is left out: a number that is no name could be one name more
 
@@ -108,20 +108,13 @@ module _ (n : ℕ) (f : ℕ → ℕ) (one : OneToOne (Below n) (Below n) f) wher
 
       go : Dec (found f n u < n) → Dec (f (found f n u) ≡ u) → (found f n u < n) × (f (found f n u) ≡ u)
       go (yes l) (yes e) = (l, e)
-      go (no l) d = absurd (omega (arith, no-more (suc n) n _ (one-more u h (λ a x e. l (at a x e .0)))))
-      go (yes l) (no d) = absurd (omega (arith, no-more (suc n) n _ (one-more u h (λ a x e. d (at a x e .1)))))
-
-  found-one : OneToOne (Below n) (Below n) (found f n)
-  found-one =
-      record {
-        there = λ u h. name-found u h .0;
-        apart = λ u v x y e. sym (name-found u x .1) ∙ ap f e ∙ name-found v y .1;
-      }
+      go (no l) d = absurd (omega (arith, enough-names (suc n) n _ (one-more u h (λ a x e. l (at a x e .0)))))
+      go (yes l) (no d) = absurd (omega (arith, enough-names (suc n) n _ (one-more u h (λ a x e. d (at a x e .1)))))
 
 -- ---- sets renamed
 
 -- a set whose members are below n
-pub small-set : (n s : ℕ) → ((m : ℕ) → In m s → m < n) → s < 2 ^ n
+small-set : (n s : ℕ) → ((m : ℕ) → In m s → m < n) → s < 2 ^ n
 small-set zero s h = go (decLt 0 s)
   where
     go : Dec (0 < s) → s < 1

@@ -191,6 +191,9 @@ module _ (by : Names) (S T : Table) (ok : Accepted S) (re : Renamed by S T) wher
       record {
         period = refl;
         count = length-map (T .ops) (folded q) ∙ re .count ∙ sym (length-map (S .ops) (folded q));
+        places =
+            subst⁻¹ (λ (n : ℕ). OneToOne (Below n) (Below (length (map (folded q) (T .ops)))) (by .place)) (length-map (S .ops) (folded q))
+            (subst⁻¹ (λ (n : ℕ). OneToOne (Below (nops S)) (Below n) (by .place)) (length-map (T .ops) (folded q)) (re .places));
         each = λ i h.
             let isOp : i < nops S = omega (arith, h, length-map (S .ops) (folded q)) in
             row-of (T .ops) q (by .place i) (re .places .there i isOp)
@@ -215,7 +218,7 @@ same-rows R U x =
     λ k. record { period = x .period k; rows = rows k }
 
 -- accepted, and the same periods
-abbrev Kept : Table → Table → Type 0
+abbrev pub Kept : Table → Table → Type 0
 Kept S T = Accepted T × ((q : ℕ) → IsPeriod S q ↔ IsPeriod T q)
 
 module _ (f : ℕ → ℕ) (S T : Table) (ok : Accepted S) where

@@ -15,20 +15,22 @@ use lib.ListN.{length, drop}
 use Rattle.rules.specs.Table.{Table, nops}
 use Rattle.rules.specs.Runs.{IsPeriod, spaced}
 use Rattle.rules.specs.Rows.{Reply, replyOf, margin}
-use Rattle.rules.specs.Renamed.{Names, Renamed, Moved}
+use Rattle.rules.specs.Renamed.{Names, Renamed, boardsBy, modesBy, Moved}
 use Rattle.rules.specs.Verdicts.{Verdict, accepted, Test, _then_}
 use Rattle.rules.specs.Bytes.{tableBytes, replyBytes}
 use Rattle.rules.specs.Judge.{judge}
 use Rattle.rules.specs.Text.{replyText, textOf}
-use Rattle.rules.specs.Answers.{Written, Answers, Planned, ReplyTo, IsPlan, IsText, asked, periodAsked, marginTest, IsMargin, IsPeriodOf, askedTable, YesFor, YesNo, Fit, BoardsFit, Arrive, ValuesArrive}
+use Rattle.rules.specs.Answers.{Written, put, Answers, Planned, ReplyTo, IsPlan, IsText, asked, periodAsked, marginTest, IsMargin, IsPeriodOf, askedTable, YesFor, YesNo, Fit, BoardsFit, Arrive, ValuesArrive}
+use Rattle.theory.specs.Tests.{periodOf}
 use Rattle.theory.proofs.Verdicts.{never-refused, then-accepts, then-refuses, onwards-accepts}
 use Rattle.theory.proofs.Says.{Known, known, holds, fails}
 use Rattle.theory.proofs.Period.{period-unique}
+use Rattle.theory.proofs.Exists.{period-found}
 use Rattle.theory.proofs.Judging.{judge-accepted}
 use Rattle.theory.proofs.Numbers.{write-read}
 use Rattle.theory.proofs.Asking.{asked-no, asked-yes, margin-row, answered-first, answered-back, accepted-answers}
-use Rattle.theory.proofs.Answering.{plan-replies, plan-room}
-use Rattle.theory.proofs.Renamed.{renamed-accepted, renamed-boards, renamed-values, renamed-period, renamed-rows, renamed-margin}
+use Rattle.theory.proofs.Answering.{plan-put, plan-replies, plan-room}
+use Rattle.theory.proofs.Renamed.{Kept, boards-kept, modes-kept, renamed-accepted, renamed-boards, renamed-values, renamed-period, renamed-rows, renamed-margin}
 
 -- the tests of a margin of two operations of the table: what is left of them
 margin-rest : (T : Table) (i j n q : ℕ) → i < nops T → j < nops T → marginTest T i j n q ≡ (asked (leb 1 n && leb n 1000) 2 then periodAsked T q 3)
@@ -76,13 +78,13 @@ module _ (by : Names) (s : List ℕ) (S T : Table) (read : judge s ≡ accepted 
   -- plan: where it answers the first bytes, it answers the second, given room: as many bytes, the same period and the moved rows, and the rest of
   -- each buffer as it was
   pub plan-sorted : (out out′ : List ℕ) (w x : Written) (n : ℕ) → IsPlan s out w → w .answer ≡ accepted n → n ≤ length out′ → IsPlan t out′ x
-      → (R : Reply) × (U : Reply) × Moved (by .place) R U × (w .buffer ≡ replyBytes R ++ drop n out) × (x .answer ≡ accepted n)
-      × (x .buffer ≡ replyBytes U ++ drop n out′)
+      → (R : Reply) × (U : Reply) × ReplyTo s (accepted R) × ReplyTo t (accepted U) × Moved (by .place) R U
+      × (w .buffer ≡ replyBytes R ++ drop n out) × (x .answer ≡ accepted n) × (x .buffer ≡ replyBytes U ++ drop n out′)
   plan-sorted out out′ w x n plan done room plan′ = go (decLt (length out) (5 + 7 * nops S))
     where
       go : Dec (length out < 5 + 7 * nops S)
-          → (R : Reply) × (U : Reply) × Moved (by .place) R U × (w .buffer ≡ replyBytes R ++ drop n out) × (x .answer ≡ accepted n)
-          × (x .buffer ≡ replyBytes U ++ drop n out′)
+          → (R : Reply) × (U : Reply) × ReplyTo s (accepted R) × ReplyTo t (accepted U) × Moved (by .place) R U
+          × (w .buffer ≡ replyBytes R ++ drop n out) × (x .answer ≡ accepted n) × (x .buffer ≡ replyBytes U ++ drop n out′)
       go (yes short) = never-refused (sym (plan-room s out S w read short plan .0) ∙ done)
       go (no long) =
           let ok = judge-accepted s S read in
@@ -93,6 +95,8 @@ module _ (by : Names) (s : List ℕ) (S T : Table) (read : judge s ≡ accepted 
           let same : p ≡ q = period-unique T p q is′ (renamed-period by S T ok re q .0 is) in (
             replyOf S q,
             replyOf T q,
+            accepted-answers Planned read (q, is, refl),
+            accepted-answers Planned sorted-read (q, renamed-period by S T ok re q .0 is, refl),
             renamed-rows by S T ok re q,
             wrote ∙ ap (λ (k : ℕ). replyBytes (replyOf S q) ++ drop k out) size,
             told′ ∙ ap accepted size′,
@@ -146,3 +150,20 @@ module _ (by : Names) (s : List ℕ) (S T : Table) (read : judge s ≡ accepted 
           margin-rest S i j n q hi hj
           ∙ ap (λ (p : ℕ). asked (leb 1 n && leb n 1000) 2 then asked (leb 1 q && leb q p) 3) (sym (re .len))
           ∙ sym (margin-rest T (by .place i) (by .place j) n q (re .places .there i hi) (re .places .there j hj))
+
+-- boards or modes renamed, and the operations where they were: plan answers the same, byte for byte, ROOM included
+module _ (s out : List ℕ) (S T : Table) (read : judge s ≡ accepted S) (w x : Written) (plan : IsPlan s out w) (plan′ : IsPlan (tableBytes T) out x) where
+  same-plan : Kept S T × ((q : ℕ) → replyOf T q ≡ replyOf S q) → x ≡ w
+  same-plan ((ok, periods), rows) =
+      let is = period-found S (judge-accepted s S read) in
+      let q = periodOf S in
+      let same : periodOf T ≡ q = period-unique T (periodOf T) q (period-found T ok) (periods q .0 is) in
+      plan-put (tableBytes T) out x T (write-read T ok) plan′
+      ∙ ap (λ (R : Reply). put (replyBytes R) out) (ap (replyOf T) same ∙ rows q)
+      ∙ sym (plan-put s out w S read plan)
+
+  pub boards-same-plan : (f : ℕ → ℕ) → Renamed (boardsBy f) S T → x ≡ w
+  boards-same-plan f re = same-plan (boards-kept f S T (judge-accepted s S read) re)
+
+  pub modes-same-plan : (f : ℕ → ℕ) → Renamed (modesBy f) S T → x ≡ w
+  modes-same-plan f re = same-plan (modes-kept f S T (judge-accepted s S read) re)
