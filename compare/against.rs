@@ -28,13 +28,7 @@ fn compare_question(
     answer: Result<usize, Refusal>,
     findings: &mut Findings,
 ) {
-    let mut copy = bytes.to_vec();
-    let said = call(&mut copy);
-    let library = Seen {
-        said,
-        kept: copy == bytes,
-        memory: Vec::new(),
-    };
+    let library = Seen::of(bytes.to_vec(), &[], |s, _| call(s));
     let planner = planned(answer, Vec::new());
     findings.note(name, || hex(bytes), &library, &planner);
 }
@@ -49,13 +43,9 @@ struct Writing {
 impl Writing {
     /// Into one lent buffer.
     fn compare_into(&self, bytes: &[u8], before: &[u8], findings: &mut Findings) {
-        let (mut copy, mut memory) = (bytes.to_vec(), before.to_vec());
-        let said = (self.call)(&mut copy, lent(&mut memory));
-        let library = Seen {
-            said,
-            kept: copy == bytes,
-            memory,
-        };
+        let library = Seen::of(bytes.to_vec(), before, |s, memory| {
+            (self.call)(s, lent(memory))
+        });
         let mut memory = before.to_vec();
         let answer = self.answer.clone();
         let answer = answer.and_then(|answer| put(&answer, lent(&mut memory)));
@@ -78,10 +68,10 @@ impl Writing {
 }
 
 /// How many buffers there are for one answer.
-const ROOMS: usize = 5;
+pub const ROOMS: usize = 5;
 
 /// One byte too short, just enough, longer, empty, and drawn.
-fn rooms(seed: &mut Seed, needed: usize) -> [usize; ROOMS] {
+pub fn rooms(seed: &mut Seed, needed: usize) -> [usize; ROOMS] {
     let longer = needed + seed.between(1, 40) as usize;
     [needed - 1, needed, longer, 0, generate::room(seed, needed)]
 }
@@ -128,29 +118,40 @@ fn compare_at_period(bytes: &[u8], q: u64, findings: &mut Findings) {
     }
 }
 
+/// Three numbers for a margin's place and its neighbours.
+pub fn drawn_places(seed: &mut Seed) -> [i32; 3] {
+    [seed.draw() as i32, seed.draw() as i32, seed.draw() as i32]
+}
+
 /// The bytes of numbers side by side.
-fn bytes_of_places(places: [i32; 3]) -> Vec<u8> {
+pub fn bytes_of_places(places: [i32; 3]) -> Vec<u8> {
     places
         .iter()
         .flat_map(|place| place.to_le_bytes())
         .collect()
 }
 
+/// What a margin is asked with: i, j, n, q.
+pub type Margin = (u64, u64, u64, u64);
+
 /// The margin's place and its neighbours are the memory that is looked at.
-fn compare_margin(
+pub fn seen_margin(
     bytes: &[u8],
-    asked: (u64, u64, u64, u64),
-    seed: &mut Seed,
-    findings: &mut Findings,
-) {
-    let before = [seed.draw() as i32, seed.draw() as i32, seed.draw() as i32];
-    let (mut copy, mut places) = (bytes.to_vec(), before);
-    let said = library::margin(&mut copy, asked, &mut places);
-    let library = Seen {
-        said,
-        kept: copy == bytes,
-        memory: bytes_of_places(places),
-    };
+    asked: Margin,
+    before: [i32; 3],
+    call: fn(&mut [u8], Margin, &mut [i32; 3]) -> Said,
+) -> Seen {
+    Seen::of(bytes.to_vec(), &bytes_of_places(before), |s, memory| {
+        let mut places = before;
+        let said = call(s, asked, &mut places);
+        memory.copy_from_slice(&bytes_of_places(places));
+        said
+    })
+}
+
+fn compare_margin(bytes: &[u8], asked: Margin, seed: &mut Seed, findings: &mut Findings) {
+    let before = drawn_places(seed);
+    let library = seen_margin(bytes, asked, before, library::margin);
     let (i, j, n, q) = asked;
     let answer = answers::margin(bytes, i, j, n, q);
     let mut places = before;
@@ -484,25 +485,15 @@ fn hex_numbers(n: &Numbers) -> String {
 }
 
 fn compare_judge_numbers(numbers: &Numbers, findings: &mut Findings) {
-    let mut copy = numbers.clone();
-    let said = library::judge_numbers(&mut copy);
-    let library = Seen {
-        said,
-        kept: copy == *numbers,
-        memory: Vec::new(),
-    };
+    let library = Seen::of(numbers.clone(), &[], |n, _| library::judge_numbers(n));
     let planner = planned(judge_numbers(numbers).map(|_| 0), Vec::new());
     findings.note("judge_numbers", || hex_numbers(numbers), &library, &planner);
 }
 
 fn compare_write(numbers: &Numbers, before: &[u8], findings: &mut Findings) {
-    let (mut copy, mut memory) = (numbers.clone(), before.to_vec());
-    let said = library::write(&mut copy, lent(&mut memory));
-    let library = Seen {
-        said,
-        kept: copy == *numbers,
-        memory,
-    };
+    let library = Seen::of(numbers.clone(), before, |n, memory| {
+        library::write(n, lent(memory))
+    });
     let mut memory = before.to_vec();
     let answer = write_table(numbers, lent(&mut memory));
     let planner = planned(answer, memory);

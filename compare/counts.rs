@@ -20,3 +20,18 @@ pub fn missed(common: &str, kinds: &[Kind]) -> Vec<String> {
         .map(|(name, _)| format!("{}, never met: {}", common, name))
         .collect()
 }
+
+/// A line for each kind with how often it was met.
+pub fn print_all(kinds: &[(&str, u64)]) {
+    for (name, count) in kinds {
+        println!("{:>8} of kind {}", count, name);
+    }
+}
+
+/// The kinds of these that were not met.
+pub fn missed_of(kinds: &[(&str, u64)]) -> Vec<String> {
+    let missed = kinds.iter().filter(|(_, count)| *count == 0);
+    missed
+        .map(|(name, _)| format!("none of kind {}", name))
+        .collect()
+}

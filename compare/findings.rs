@@ -50,7 +50,7 @@ const BLAMING: [(&str, &[usize]); 3] = [
 const LEADING: [usize; 11] = [1, 2, 4, 5, 6, 7, 8, 9, 10, 11, 15];
 
 /// How many differences are printed; the others are only counted.
-const MOST_PRINTED: u64 = 5;
+pub const MOST_PRINTED: u64 = 5;
 
 /// Bytes in front of a lent buffer and behind it, which have to stay.
 const GUARD: usize = 16;
@@ -59,16 +59,30 @@ const GUARD: usize = 16;
 
 /// What is told, whether the input is as it was, and the lent memory with the
 /// bytes around it.
-#[derive(PartialEq, Eq)]
+#[derive(Clone, PartialEq, Eq)]
 pub struct Seen {
     pub said: Said,
     pub kept: bool,
     pub memory: Vec<u8>,
 }
 
+impl Seen {
+    /// Of a call with this input, which may write to memory that is like this before.
+    pub fn of<T: Clone + PartialEq>(
+        input: T,
+        before: &[u8],
+        call: impl FnOnce(&mut T, &mut [u8]) -> Said,
+    ) -> Seen {
+        let (mut copy, mut memory) = (input.clone(), before.to_vec());
+        let said = call(&mut copy, &mut memory);
+        let kept = copy == input;
+        Seen { said, kept, memory }
+    }
+}
+
 /// An answer as the library tells it: on success the number is 0, a the number of
 /// bytes written or what was asked for (0 where neither is told) and b 0.
-fn said_of(answer: Result<usize, Refusal>) -> Said {
+pub fn said_of(answer: Result<usize, Refusal>) -> Said {
     match answer {
         Ok(count) => Said {
             number: 0,
@@ -251,7 +265,7 @@ impl Findings {
     }
 }
 
-fn print_seen(who: &str, seen: &Seen) {
+pub fn print_seen(who: &str, seen: &Seen) {
     let Said { number, a, b } = seen.said;
     let input = if seen.kept { "" } else { ", input changed" };
     println!("  {} {} {} {}{}", who, number, a, b, input);

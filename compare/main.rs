@@ -3,6 +3,7 @@
 //!   library --count N --seed S   the static library's answers against the planner's
 //!   selftest                     the planner's own tests
 //!   runs --count N --seed S      all runs of small tables, laid out, against the static library and against walks
+//!   renamed --count N --seed S   tables in another order and by other names: the static library's answers, moved
 //!   stats --count N --seed S     how often each refusal is met
 //!   speed --count N --seed S --on TEXT --picture FILE
 //!                                the time of the library's period search and of a simple planner's, on N tables of each
@@ -40,6 +41,7 @@ mod kinds;
 mod laid;
 mod library;
 mod picture;
+mod renamed;
 mod runs;
 mod selftest;
 mod simple;
@@ -58,6 +60,9 @@ const LIBRARY_COUNT: u64 = 200_000;
 
 /// How many tables have all their runs laid out unless a count is given.
 const RUNS_COUNT: u64 = 20_000;
+
+/// How many tables are renamed unless a count is given.
+const RENAMED_COUNT: u64 = 10_000;
 
 /// The count and the seed that the arguments name, if they name any; none where
 /// they are not understood.
@@ -83,6 +88,7 @@ fn drawn(name: &str, args: &[String]) -> bool {
     match name {
         "library" => against::against(count.unwrap_or(LIBRARY_COUNT), seed),
         "runs" => laid::laid_command(count.unwrap_or(RUNS_COUNT), seed),
+        "renamed" => renamed::renamed_command(count.unwrap_or(RENAMED_COUNT), seed),
         "stats" => stats::stats_command(count.unwrap_or(1000), seed),
         _ => usage(),
     }
@@ -107,7 +113,7 @@ fn command(name: &str, args: &[String]) -> bool {
 }
 
 fn usage() -> bool {
-    println!("library | runs | stats, each with --count N --seed S");
+    println!("library | runs | renamed | stats, each with --count N --seed S");
     println!(
         "selftest | bytes | text | plan | longest | ask WORD.. | examples FILE.. | bench FILE.."
     );

@@ -1,21 +1,25 @@
 //! Byte examples, the story of the turn that nobody typed, and a few checks on drawn inputs.
 //! What the tables of `examples/` fold to stands in their comments and is checked there.
 
-use crate::answers::{boards_fit, margin, plan, start_bytes, text, unfold, values_arrive};
-use crate::answers::{LONGEST_PLAIN, LONGEST_REPLY, LONGEST_STARTS, LONGEST_TABLE, LONGEST_TEXT};
+use crate::against::Margin;
+use crate::answers::{boards_fit, fold, margin, plan, reply_bytes, start_bytes, text};
+use crate::answers::{unfold, values_arrive, LONGEST_PLAIN, LONGEST_REPLY, LONGEST_STARTS};
+use crate::answers::{LONGEST_TABLE, LONGEST_TEXT};
 use crate::asking::lines_are_as_said;
 use crate::blamed;
 use crate::examples::K1;
-use crate::findings::NAMES;
+use crate::findings::{said_of, NAMES};
 use crate::generate::{self, Seed};
 use crate::hex::bytes_in;
 use crate::judge::{bytes_of, bytes_of_numbers, judge, judge_numbers, numbers_of, push_number};
-use crate::judge::{read_table, write_table, Numbers, Op, Refusal, Table};
+use crate::judge::{put, read_table, write_table, Numbers, Op, Refusal, Table};
+use crate::library::Said;
 use crate::picture::{escaped, svg, tick, Panel, Point};
+use crate::renamed::{compare_pair, drawn_renaming, Found, Functions, Pair, Renaming};
 use crate::runs::{taken_from, Run};
 use crate::stack;
 use crate::times::{readable, timed, worked, Times, ROUNDS};
-use crate::walks::{period, right};
+use crate::walks::{self, period, right};
 use crate::words::{decimal, printed, LIST};
 
 /// How many checks passed and failed.
@@ -1548,6 +1552,351 @@ fn keeps_bytes(tally: &mut Tally, seed: &mut Seed) {
     tally.check("unfold keeps", out[kept..].iter().all(|byte| *byte == 0x33));
 }
 
+// ---- another order and other names --------------------------------------
+
+/// Three modes, of which no run reaches mode 2; four boards, of which no operation has board 2. The
+/// decider [0,1), in every mode, holds board 0 for four more ticks; [2,5) on board 1 writes in mode 0;
+/// [1,2) on board 3 reads that in mode 1; [5,8) on board 0 in mode 2. Its boards fit from 5 on, and
+/// its values arrive from 4 on.
+const BEFORE_RENAMING: &str = "0100020008 020003040103 030010 00000001 00000003 00000001 00000004 \
+    040014 0000 0001 0004 0001 00000000 00000000 00000007 \
+    040012 0002 0003 0002 00000000 00000001 00000001 \
+    040012 0001 0001 0008 00000001 00000000 00000002 \
+    040012 0005 0003 0001 00000000 00000000 00000004 05000100";
+
+/// Its operations are numbered 2, 0, 3, 1 now, its boards 0, 1 and 3 are 5, 0 and 1 of six, and its
+/// modes are 1, 2, 0.
+const AFTER_RENAMING: &str = "0100020008 020003060103 030010 00000002 00000001 00000006 00000002 \
+    040012 0002 0003 0001 00000000 00000001 00000002 \
+    040012 0005 0003 0020 00000000 00000000 00000001 \
+    040014 0000 0001 0004 0020 00000000 00000000 00000007 \
+    040012 0001 0001 0002 00000001 00000000 00000004 05000102";
+
+fn before_renaming() -> Table {
+    judge(&from_hex(BEFORE_RENAMING)).expect("it is accepted")
+}
+
+fn by_hand() -> Renaming {
+    Renaming {
+        ops: vec![2, 0, 3, 1],
+        boards: vec![Some(5), Some(0), None, Some(1)],
+        board_count: 6,
+        modes: vec![1, 2, 0],
+    }
+}
+
+/// The two tables, what both print, and the way back.
+fn renamed_by_hand(tally: &mut Tally) {
+    let (table, renaming) = (before_renaming(), by_hand());
+    let other = renaming.table(&table);
+    tally.check("renamed", bytes_of(&other) == from_hex(AFTER_RENAMING));
+    tally.check("one to one", renaming.is_one_to_one(&table));
+    let rows = [
+        "start 0 fst 0",
+        "start 2 fst 0",
+        "start 1 fst 0",
+        "start 0 fst 1",
+    ];
+    let said = |order: [usize; 4]| {
+        let line = |(op, row): (usize, usize)| format!("op {} {}\n", op, rows[row]);
+        let lines: String = order.into_iter().enumerate().map(line).collect();
+        format!("period 5\n{}", lines)
+    };
+    tally.check(
+        "before",
+        text(&from_hex(BEFORE_RENAMING)) == said([0, 1, 2, 3]),
+    );
+    tally.check(
+        "after",
+        text(&from_hex(AFTER_RENAMING)) == said([1, 3, 0, 2]),
+    );
+    let back = Renaming {
+        ops: vec![1, 3, 0, 2],
+        boards: vec![Some(1), Some(3), None, None, None, Some(0)],
+        board_count: 4,
+        modes: vec![2, 0, 1],
+    };
+    tally.check(
+        "back",
+        renaming.back() == back && back.table(&other) == table,
+    );
+}
+
+/// A drawn renaming, and then the way back.
+fn renamed_and_back(tally: &mut Tally, seed: &mut Seed) {
+    let table = generate::small(seed);
+    let renaming = drawn_renaming(seed, &table);
+    let (other, back) = (renaming.table(&table), renaming.back());
+    tally.check("one to one", renaming.is_one_to_one(&table));
+    tally.check("accepted", judge(&bytes_of(&other)).as_ref() == Ok(&other));
+    tally.check("one to one", back.is_one_to_one(&other));
+    tally.check("back", back.table(&other) == table);
+}
+
+/// The answers of the planner, as the library gives them.
+const PLANNER: Functions = Functions {
+    judge: |s| said_of(judge(s).map(|_| 0)),
+    judge_numbers: |n| said_of(judge_numbers(n).map(|_| 0)),
+    write: |n, out| said_of(write_table(n, out)),
+    period: |s| said_of(judge(s).map(|table| period(&table) as usize)),
+    boards_fit: |s, q| said_of(boards_fit(s, q).map(usize::from)),
+    values_arrive: |s, q| said_of(values_arrive(s, q).map(usize::from)),
+    plan: |s, out| said_of(plan(s, out)),
+    margin: planned_margin,
+};
+
+fn planned_margin(s: &mut [u8], asked: Margin, places: &mut [i32; 3]) -> Said {
+    let (i, j, n, q) = asked;
+    let answer = margin(s, i, j, n, q).map(|margin| places[1] = margin as i32);
+    said_of(answer.map(|_| 0))
+}
+
+/// How often a test puts two tables to the functions.
+const TIMES: u64 = 5;
+
+/// How many answers differ, of many about two tables.
+fn differences(functions: &Functions, table: &Table, other: &Table, renaming: &Renaming) -> u64 {
+    let pair = Pair {
+        table,
+        other,
+        renaming,
+    };
+    let (mut found, mut seed) = (Found::new(0), Seed::new(12));
+    for _ in 0..TIMES {
+        compare_pair(functions, &pair, &mut seed, &mut found);
+    }
+    found.differences
+}
+
+/// Nothing differs where all is well.
+fn renamed_well(tally: &mut Tally, seed: &mut Seed) {
+    let table = generate::small(seed);
+    let renaming = drawn_renaming(seed, &table);
+    let other = renaming.table(&table);
+    let differ = differences(&PLANNER, &table, &other, &renaming);
+    tally.check("renamed well", differ == 0);
+}
+
+/// Faults in the second table, of which the first one is handed over, too.
+const BADLY_RENAMED: [(&str, fn(&mut Table, &Table)); 13] = [
+    ("two operations in each other's place", |other, _| {
+        other.ops.swap(0, 1)
+    }),
+    ("decider left behind", |other, table| {
+        other.decider = table.decider
+    }),
+    ("turns left behind", |other, table| {
+        other.follow = table.follow.clone()
+    }),
+    ("turns moved and not renamed", |other, _| {
+        other.follow = vec![4, 3, 1]
+    }),
+    ("turns renamed and not moved", |other, _| {
+        other.follow = vec![6, 2, 1]
+    }),
+    ("first modes left behind", |other, table| {
+        other.first = table.first
+    }),
+    ("modes of the operations left behind", |other, table| {
+        set_each(other, table, |op, old| op.modes = old.modes)
+    }),
+    ("modes of one operation left behind", |other, table| {
+        other.ops[0].modes = table.ops[1].modes
+    }),
+    ("another operation's board", |other, _| {
+        other.ops[0].boards = other.ops[2].boards
+    }),
+    ("holds left with the numbers", |other, table| {
+        let ops = other.ops.iter_mut().zip(&table.ops);
+        ops.for_each(|(op, old)| op.hold = old.hold)
+    }),
+    ("hold left out", |other, _| other.ops[2].hold = None),
+    ("cells left with the numbers", |other, table| {
+        let ops = other.ops.iter_mut().zip(&table.ops);
+        ops.for_each(|(op, old)| (op.reads, op.writes) = (old.reads, old.writes))
+    }),
+    ("too few boards", |other, _| other.boards = 5),
+];
+
+/// Changes each operation by what it was in the first table.
+fn set_each(other: &mut Table, table: &Table, set: fn(&mut Op, &Op)) {
+    for (old, new) in table.ops.iter().zip(by_hand().ops) {
+        set(&mut other.ops[new as usize], old);
+    }
+}
+
+/// Faults in the second table are found: a number that was left behind or changed by itself. And
+/// nothing is good where nothing was met.
+fn renamed_badly(tally: &mut Tally) {
+    let (table, renaming) = (before_renaming(), by_hand());
+    let other = renaming.table(&table);
+    let differ = differences(&PLANNER, &table, &other, &renaming);
+    tally.check("renamed well", differ == 0);
+    for (name, spoil) in BADLY_RENAMED {
+        let mut bad = other.clone();
+        spoil(&mut bad, &table);
+        let differ = differences(&PLANNER, &table, &bad, &renaming);
+        tally.check(name, bad != other && differ > 0);
+    }
+    tally.check("nothing met", !Found::new(0).is_good());
+}
+
+/// Faults in the renaming: two operations, boards or modes with one name, a board in use without a
+/// name, a name beyond the count, more boards than there may be.
+const NOT_ONE_TO_ONE: [(&str, fn(&mut Renaming)); 8] = [
+    ("one place for two operations", |it| it.ops[1] = 2),
+    ("one name for two boards", |it| it.boards[1] = Some(5)),
+    ("one name for two modes", |it| it.modes[2] = 1),
+    ("a name beyond the operations", |it| it.ops[1] = 4),
+    ("a name beyond the boards", |it| it.board_count = 5),
+    ("a name beyond the modes", |it| it.modes[2] = 3),
+    ("no name for a board in use", |it| it.boards[3] = None),
+    ("too many boards", |it| it.board_count = 17),
+];
+
+/// Each is seen; and of those that still make a table, the answers about it differ.
+fn not_one_to_one(tally: &mut Tally) {
+    let table = before_renaming();
+    for (place, (name, spoil)) in NOT_ONE_TO_ONE.into_iter().enumerate() {
+        let mut bad = by_hand();
+        spoil(&mut bad);
+        tally.check(name, !bad.is_one_to_one(&table));
+        if place < 3 {
+            let differ = differences(&PLANNER, &table, &bad.table(&table), &bad);
+            // one is noted each time for the renaming, whatever the answers
+            tally.check(name, differ > TIMES);
+        }
+    }
+}
+
+/// The rows of a reply listed by their starts, whatever their operations.
+fn plan_sorted(s: &mut [u8], out: &mut [u8]) -> Said {
+    let reply = fold(s).map(|mut reply| {
+        reply.rows.sort_by_key(|row| (row.fst, row.folded));
+        reply_bytes(&reply)
+    });
+    said_of(reply.and_then(|reply| put(&reply, out)))
+}
+
+/// A buffer that is too short gets as many bytes as it has room for.
+fn plan_cut(s: &mut [u8], out: &mut [u8]) -> Said {
+    let (said, room) = (said_of(plan(s, out)), out.len());
+    let mut reply = [0; LONGEST_REPLY];
+    if said.number == 8 && plan(s, &mut reply).is_ok() {
+        out.copy_from_slice(&reply[..room]);
+    }
+    said
+}
+
+/// One byte more than the reply has is written where operation 0 decides.
+fn plan_long(s: &mut [u8], out: &mut [u8]) -> Said {
+    let said = said_of(plan(s, out));
+    let decides = judge(s).map_or(false, |table| table.decider == Some(0));
+    if let Some(byte) = out.get_mut(said.a as usize).filter(|_| decides) {
+        *byte ^= 1;
+    }
+    said
+}
+
+/// The table as it is changed, where it is accepted as it was; it is not judged again.
+fn changed_table(s: &[u8], change: fn(&mut Table)) -> Result<Table, Refusal> {
+    judge(s).map(|mut table| {
+        change(&mut table);
+        table
+    })
+}
+
+/// The period of the table as it is changed.
+fn changed_period(s: &[u8], change: fn(&mut Table)) -> Said {
+    said_of(changed_table(s, change).map(|table| period(&table) as usize))
+}
+
+/// A question at a period about the table as it is changed; what is refused of it as it was stays
+/// refused.
+fn changed_at(s: &[u8], q: u64, change: fn(&mut Table), ask: fn(&Table, u64) -> bool) -> Said {
+    let asked = boards_fit(s, q).and_then(|_| changed_table(s, change));
+    said_of(asked.map(|table| usize::from(ask(&table, q))))
+}
+
+/// Boards 4 and up are taken from all operations.
+fn forget_boards(table: &mut Table) {
+    table.ops.iter_mut().for_each(|op| op.boards &= 15);
+}
+
+/// Libraries with a fault each: the planner, and one function in the place of its own.
+const FAULTY: [(&str, fn(&mut Functions)); 15] = [
+    ("rows by their starts", |it| it.plan = plan_sorted),
+    ("a short buffer is written to", |it| it.plan = plan_cut),
+    ("a byte behind the reply", |it| it.plan = plan_long),
+    ("the input is changed", |it| {
+        it.plan = |s, out| {
+            s[0] ^= 1;
+            said_of(plan(&changed(s, 0, "01"), out))
+        }
+    }),
+    ("any decider but 0 is refused", |it| {
+        it.judge = |s| match judge(s) {
+            Ok(table) if table.decider != Some(0) => said_of(Err(refusal_of((10, 0, 0)))),
+            answer => said_of(answer.map(|_| 0)),
+        }
+    }),
+    ("all tables are refused", |it| {
+        it.judge = |_| said_of(Err(refusal_of((6, 0, 1))))
+    }),
+    ("the period goes by the count of boards", |it| {
+        it.period = |s| said_of(judge(s).map(|it| period(&it).max(it.boards) as usize))
+    }),
+    ("mode 0 is always a first mode", |it| {
+        it.period = |s| changed_period(s, |table| table.first |= 1)
+    }),
+    ("every mode follows mode 0", |it| {
+        it.period = |s| changed_period(s, |table| table.follow[0] = 7)
+    }),
+    ("operation 0 holds no board", |it| {
+        it.period = |s| changed_period(s, |table| table.ops[0].modes = 0)
+    }),
+    ("boards are forgotten from 4 on", |it| {
+        it.boards_fit = |s, q| changed_at(s, q, forget_boards, walks::boards_fit)
+    }),
+    ("operation 3 reads nothing", |it| {
+        it.values_arrive =
+            |s, q| changed_at(s, q, |table| table.ops[3].reads = 0, walks::values_arrive)
+    }),
+    (
+        "a period out of range is refused with the count of boards",
+        |it| {
+            it.boards_fit = |s, q| match boards_fit(s, q) {
+                Err(refusal) if refusal.number == 9 => {
+                    said_of(Err(refusal_of((9, u64::from(s[8]), 0))))
+                }
+                answer => said_of(answer.map(usize::from)),
+            }
+        },
+    ),
+    ("margins of the lower number first", |it| {
+        it.margin = |s, (i, j, n, q), places| planned_margin(s, (i.min(j), i.max(j), n, q), places)
+    }),
+    ("a refused margin is set to 0", |it| {
+        it.margin = |s, asked, places| {
+            let said = planned_margin(s, asked, places);
+            places[1] *= i32::from(said.number == 0);
+            said
+        }
+    }),
+];
+
+/// Each fault of a library is found.
+fn faulty_libraries(tally: &mut Tally) {
+    let (table, renaming) = (before_renaming(), by_hand());
+    let other = renaming.table(&table);
+    for (name, spoil) in FAULTY {
+        let mut functions = PLANNER;
+        spoil(&mut functions);
+        let differ = differences(&functions, &table, &other, &renaming);
+        tally.check(name, differ > 0);
+    }
+}
+
 // ---- what is measured with ----------------------------------------------
 
 /// A table is accepted and has these counts: length, boards, cells, modes, operations.
@@ -1707,7 +2056,7 @@ fn little_stack(tally: &mut Tally) {
 }
 
 /// The checks that draw nothing.
-const FIXED: [fn(&mut Tally); 41] = [
+const FIXED: [fn(&mut Tally); 45] = [
     hexadecimal,
     bench_k1,
     bench_answers,
@@ -1746,6 +2095,10 @@ const FIXED: [fn(&mut Tally); 41] = [
     decimals,
     words,
     cuts,
+    renamed_by_hand,
+    renamed_badly,
+    not_one_to_one,
+    faulty_libraries,
     timing,
     times,
     pictures,
@@ -1759,9 +2112,11 @@ fn drawn(tally: &mut Tally, seed: &mut Seed) {
         in_layout_order(tally, seed);
         keeps_bytes(tally, seed);
         no_more_bytes(tally, seed);
+        renamed_and_back(tally, seed);
     }
     for _ in 0..50 {
         within_sizes(tally, seed);
+        renamed_well(tally, seed);
     }
     for _ in 0..5 {
         measured_rings(tally, seed);

@@ -77,6 +77,7 @@ fn deciders() {
     one(b"k01-decides");
     one(b"analyzer-decides");
     one(b"analyzer-decides-early");
+    one(b"analyzer-sorted");
 }
 
 // tables with a hold
