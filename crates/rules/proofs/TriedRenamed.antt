@@ -197,7 +197,7 @@ module _ (by back : Names) (n m : ℕ) (S T : Table) where
         }
 
 -- ---- the bench tables: K2 with its operations turned round, K3 with its boards renamed, K5 and K7 with modes exchanged; and all at once, with a hold
--- and a decider. Each way takes back what the other does.
+-- and a decider. The maps that come second take back what the first do; 9 is for boards that nothing has.
 
 k2-is-turned : Renamed turnedRound k2 k2-turned
 unfolding has opb modeb modeSet below backed numbersb renames into from
@@ -262,15 +262,16 @@ sixteen-boards =
 
 -- ---- not renamed: each of these differs in one thing from what was just shown
 
--- all at once, but for these
+-- a table by its parts
 abbrev resorted : (len boards cells modes first : ℕ) → List ℕ → List Op → Decider → Table
 resorted len boards cells modes first follow os who =
     record { len = len; boards = boards; cells = cells; modes = modes; first = first; follow = follow; ops = os; decider = who }
 
+-- all three at once, but for first modes, turns and decider
 abbrev sortedHead : ℕ → List ℕ → Decider → Table
 sortedHead first follow who = resorted 6 5 1 2 first follow (sorted .ops) who
 
--- the first of the two in another place is operation 1: [2,5) on board 4 reads c0 in the cold
+-- but for operation 1, which stands first: [2,5) on board 4 reads c0 in the cold, now mode 1
 abbrev sortedOp : Op → Table
 sortedOp o = resorted 6 5 1 2 2 (2 ∷ 3 ∷ []) (o ∷ opn 4 1 1 1 0 1 ∷ held 0 2 1 2 0 1 3 ∷ []) (decides 2)
 
@@ -387,8 +388,8 @@ mode-set-more-not : Sorted (sortedOp (opn 2 3 16 1 0 3)) → ⊥
 unfolding Sorted has
 mode-set-more-not x = let (a, is, to) = x .each 1 (omega arith) .modes 0 .0 refl in not-zero a is to
 
--- the same of the other two, and less where it was more: a date, a hold, a cell; boards and modes one less. Operation 2 is [4,5) on board 0 of the
--- new names, operation 0 the one with the hold.
+-- the same of the other two, and less where it was more: a date, a hold, a cell; boards and modes one less. Behind operation 1 stands 2, [4,5) on board
+-- 0 in the warm, and then 0, with the hold.
 abbrev sortedOthers : Op → Op → Table
 sortedOthers o u = resorted 6 5 1 2 2 (2 ∷ 3 ∷ []) (opn 2 3 16 1 0 2 ∷ o ∷ u ∷ []) (decides 2)
 
