@@ -20,6 +20,235 @@ use Rattle.rules.specs.Judge.{judge}
 use Rattle.rules.specs.Bench.{opn, held, oneMode, row, k1, k2, k3, k5, k6, k7, k10, byRow, turnedRound, k2-turned, otherBoards, k3-renamed, exchanged, k5-exchanged, k7-exchanged, sorted-before, allThree, sorted, k10-turned, k10-behind, k10-before, no-such-board}
 use Rattle.rules.proofs.Tried.{in-small}
 
+-- ---- not renamed: each of these differs in one thing from `sorted`, which is (`sorted-is-renamed`), or from a table like it
+
+-- a table by its parts
+abbrev resorted : (len boards cells modes first : ℕ) → List ℕ → List Op → Decider → Table
+resorted len boards cells modes first follow os who =
+    record { len = len; boards = boards; cells = cells; modes = modes; first = first; follow = follow; ops = os; decider = who }
+
+-- all three at once, but for first modes, turns and decider
+abbrev sortedHead : ℕ → List ℕ → Decider → Table
+sortedHead first follow who = resorted 6 5 1 2 first follow (sorted .ops) who
+
+-- but for operation 1, which stands first: [2,5) on board 4 reads c0 in the cold, now mode 1
+abbrev sortedOp : Op → Table
+sortedOp o = resorted 6 5 1 2 2 (2 ∷ 3 ∷ []) (o ∷ opn 4 1 1 1 0 1 ∷ held 0 2 1 2 0 1 3 ∷ []) (decides 2)
+
+Sorted : Table → Type 0
+Sorted T = Renamed allThree sorted-before T
+
+-- another length, another number of cells, of modes, of operations, of words; a count of boards that does not cover the new names; one beyond 16
+len-not : Sorted (resorted 7 5 1 2 2 (2 ∷ 3 ∷ []) (sorted .ops) (decides 2)) → ⊥
+unfolding Sorted
+len-not x = omega (arith, x .len)
+
+cells-not : Sorted (resorted 6 5 2 2 2 (2 ∷ 3 ∷ []) (sorted .ops) (decides 2)) → ⊥
+unfolding Sorted
+cells-not x = omega (arith, x .cells)
+
+mode-more-not : Sorted (resorted 6 5 1 3 2 (2 ∷ 3 ∷ []) (sorted .ops) (decides 2)) → ⊥
+unfolding Sorted
+mode-more-not x = omega (arith, x .modes)
+
+op-more-not : Sorted (resorted 6 5 1 2 2 (2 ∷ 3 ∷ []) (sorted .ops ++ (opn 5 1 8 0 0 1 ∷ [])) (decides 2)) → ⊥
+unfolding Sorted
+op-more-not x = omega (arith, x .count)
+
+word-more-not : Sorted (sortedHead 2 (2 ∷ 3 ∷ 1 ∷ []) (decides 2)) → ⊥
+unfolding Sorted
+word-more-not x = omega (arith, x .words)
+
+not-covered : Sorted (resorted 6 4 1 2 2 (2 ∷ 3 ∷ []) (sorted .ops) (decides 2)) → ⊥
+unfolding Sorted has
+not-covered x = omega (arith, x .boards .there 1 (1, omega arith, refl))
+
+boards-17-not : Sorted (resorted 6 17 1 2 2 (2 ∷ 3 ∷ []) (sorted .ops) (decides 2)) → ⊥
+unfolding Sorted
+boards-17-not x = omega (arith, x .boards-high)
+
+-- what is in a set with one member, 0, is taken to 1 by the exchange of cold and warm
+not-zero : (a : ℕ) → In a 1 → allThree .mode a ≡ 0 → ⊥
+not-zero zero x e = omega arith
+not-zero (suc a) x e = in-small 1 1 (suc a) (omega arith) (omega arith) x
+
+-- first modes left behind; one more; turns left behind; one more; one less
+first-left-not : Sorted (sortedHead 1 (2 ∷ 3 ∷ []) (decides 2)) → ⊥
+unfolding Sorted has
+first-left-not x = false≢true (x .firsts 1 .1 (0, refl, refl))
+
+first-more-not : Sorted (sortedHead 3 (2 ∷ 3 ∷ []) (decides 2)) → ⊥
+unfolding Sorted has
+first-more-not x = let (a, is, to) = x .firsts 0 .0 refl in not-zero a is to
+
+turns-left-not : Sorted (sortedHead 2 (3 ∷ 1 ∷ []) (decides 2)) → ⊥
+unfolding Sorted has
+turns-left-not x = false≢true (x .turns 0 (omega arith) 1 .1 (0, refl, refl))
+
+turn-more-not : Sorted (sortedHead 2 (3 ∷ 3 ∷ []) (decides 2)) → ⊥
+unfolding Sorted has
+turn-more-not x = let (a, is, to) = x .turns 1 (omega arith) 0 .0 refl in not-zero a is to
+
+turn-less-not : Sorted (sortedHead 2 (2 ∷ 2 ∷ []) (decides 2)) → ⊥
+unfolding Sorted has
+turn-less-not x = false≢true (x .turns 0 (omega arith) 0 .1 (1, refl, refl))
+
+-- the decider's number left behind; nobody
+decider-left-not : Sorted (sortedHead 2 (2 ∷ 3 ∷ []) (decides 0)) → ⊥
+unfolding Sorted
+decider-left-not x = let e = x .decider in let z : _≡_ {A = ℕ} 0 2 = cc in omega arith
+
+decider-none-not : Sorted (sortedHead 2 (2 ∷ 3 ∷ []) nobody) → ⊥
+unfolding Sorted
+decider-none-not x = let e = x .decider in let z : _≡_ {A = ℕ} 1 0 = cc in omega arith
+
+-- the operations where they were; a date, a hold, a cell more or less; boards and modes left behind, one more
+order-left-not : Sorted (resorted 6 5 1 2 2 (2 ∷ 3 ∷ []) (held 0 2 1 2 0 1 3 ∷ opn 2 3 16 1 0 2 ∷ opn 4 1 1 1 0 1 ∷ []) (decides 2)) → ⊥
+unfolding Sorted
+order-left-not x = omega (arith, x .each 0 (omega arith) .start)
+
+start-not : Sorted (sortedOp (opn 3 3 16 1 0 2)) → ⊥
+unfolding Sorted
+start-not x = omega (arith, x .each 1 (omega arith) .start)
+
+dur-not : Sorted (sortedOp (opn 2 2 16 1 0 2)) → ⊥
+unfolding Sorted
+dur-not x = omega (arith, x .each 1 (omega arith) .dur)
+
+hold-not : Sorted (sortedOp (held 2 3 1 16 1 0 2)) → ⊥
+unfolding Sorted
+hold-not x = omega (arith, x .each 1 (omega arith) .hold)
+
+reads-not : Sorted (sortedOp (opn 2 3 16 0 0 2)) → ⊥
+unfolding Sorted
+reads-not x = omega (arith, x .each 1 (omega arith) .reads)
+
+writes-not : Sorted (sortedOp (opn 2 3 16 1 1 2)) → ⊥
+unfolding Sorted
+writes-not x = omega (arith, x .each 1 (omega arith) .writes)
+
+boards-left-not : Sorted (sortedOp (opn 2 3 2 1 0 2)) → ⊥
+unfolding Sorted has
+boards-left-not x = false≢true (x .each 1 (omega arith) .boards 4 .1 (1, refl, refl))
+
+board-more-not : Sorted (sortedOp (opn 2 3 24 1 0 2)) → ⊥
+unfolding Sorted has
+board-more-not x = let (b, is, to) = x .each 1 (omega arith) .boards 3 .0 refl in go b is to
+  where
+    go : (b : ℕ) → In b 2 → allThree .board b ≡ 3 → ⊥
+    go zero is to = omega arith
+    go (suc zero) is to = omega arith
+    go (suc (suc b)) is to = in-small 2 2 (suc (suc b)) (omega arith) (omega arith) is
+
+modes-left-not : Sorted (sortedOp (opn 2 3 16 1 0 1)) → ⊥
+unfolding Sorted has
+modes-left-not x = false≢true (x .each 1 (omega arith) .modes 1 .1 (0, refl, refl))
+
+mode-set-more-not : Sorted (sortedOp (opn 2 3 16 1 0 3)) → ⊥
+unfolding Sorted has
+mode-set-more-not x = let (a, is, to) = x .each 1 (omega arith) .modes 0 .0 refl in not-zero a is to
+
+-- the same of the other two, and less where it was more: a date, a hold, a cell; boards and modes one less. Behind operation 1 stands 2, [4,5) on board
+-- 0 in the warm, and then 0, with the hold.
+abbrev sortedOthers : Op → Op → Table
+sortedOthers o u = resorted 6 5 1 2 2 (2 ∷ 3 ∷ []) (opn 2 3 16 1 0 2 ∷ o ∷ u ∷ []) (decides 2)
+
+start-less-not : Sorted (sortedOthers (opn 3 1 1 1 0 1) (held 0 2 1 2 0 1 3)) → ⊥
+unfolding Sorted
+start-less-not x = omega (arith, x .each 2 (omega arith) .start)
+
+dur-more-not : Sorted (sortedOthers (opn 4 2 1 1 0 1) (held 0 2 1 2 0 1 3)) → ⊥
+unfolding Sorted
+dur-more-not x = omega (arith, x .each 2 (omega arith) .dur)
+
+hold-less-not : Sorted (sortedOthers (opn 4 1 1 1 0 1) (held 0 2 0 2 0 1 3)) → ⊥
+unfolding Sorted
+hold-less-not x = omega (arith, x .each 0 (omega arith) .hold)
+
+reads-more-not : Sorted (sortedOthers (opn 4 1 1 1 0 1) (held 0 2 1 2 1 1 3)) → ⊥
+unfolding Sorted
+reads-more-not x = omega (arith, x .each 0 (omega arith) .reads)
+
+writes-less-not : Sorted (sortedOthers (opn 4 1 1 1 0 1) (held 0 2 1 2 0 0 3)) → ⊥
+unfolding Sorted
+writes-less-not x = omega (arith, x .each 0 (omega arith) .writes)
+
+board-less-not : Sorted (sortedOthers (opn 4 1 0 1 0 1) (held 0 2 1 2 0 1 3)) → ⊥
+unfolding Sorted has
+board-less-not x = false≢true (x .each 2 (omega arith) .boards 0 .1 (2, refl, refl))
+
+mode-set-less-not : Sorted (sortedOthers (opn 4 1 1 1 0 1) (held 0 2 1 2 0 1 1)) → ⊥
+unfolding Sorted has
+mode-set-less-not x = false≢true (x .each 0 (omega arith) .modes 1 .1 (0, refl, refl))
+
+-- a shorter length, a cell less, a word less; no first mode; a decider where nobody decided
+len-less-not : Sorted (resorted 5 5 1 2 2 (2 ∷ 3 ∷ []) (sorted .ops) (decides 2)) → ⊥
+unfolding Sorted
+len-less-not x = omega (arith, x .len)
+
+cells-less-not : Sorted (resorted 6 5 0 2 2 (2 ∷ 3 ∷ []) (sorted .ops) (decides 2)) → ⊥
+unfolding Sorted
+cells-less-not x = omega (arith, x .cells)
+
+word-less-not : Renamed (inOrder (λ i. i)) (resorted 5 1 0 1 1 (1 ∷ 0 ∷ []) (k1 .ops) nobody) k1 → ⊥
+word-less-not x = omega (arith, x .words)
+
+first-less-not : Sorted (sortedHead 0 (2 ∷ 3 ∷ []) (decides 2)) → ⊥
+unfolding Sorted has
+first-less-not x = false≢true (x .firsts 1 .1 (0, refl, refl))
+
+decider-other-not : Sorted (sortedHead 2 (2 ∷ 3 ∷ []) (decides 1)) → ⊥
+unfolding Sorted
+decider-other-not x = let e = x .decider in let z : _≡_ {A = ℕ} 1 2 = cc in omega arith
+
+decider-new-not : Renamed turnedRound k2 (resorted 6 3 2 1 1 (1 ∷ []) (k2-turned .ops) (decides 2)) → ⊥
+decider-new-not x = let e = x .decider in let z : _≡_ {A = ℕ} 1 0 = cc in omega arith
+
+-- a member beyond every count
+member-beyond-not : RenamedSet (λ a. a) 0 (2 ^ 32) → ⊥
+unfolding has
+member-beyond-not x = let (a, is, to) = x 32 .0 refl in in-small 0 0 a (omega arith) (omega arith) is
+
+-- ---- maps that are not one to one: two boards, two modes, two operations to one; a name beyond the count
+
+-- K4 on two boards, and on one
+two-boards-not : Renamed (boardsBy (byRow (0 ∷ 0 ∷ []))) (oneMode 4 2 0 (opn 0 1 1 0 0 1 ∷ opn 3 1 2 0 0 1 ∷ [])) (oneMode 4 2 0 (opn 0 1 1 0 0 1 ∷ opn 3 1 1 0 0 1 ∷ [])) → ⊥
+unfolding has
+two-boards-not x = omega (arith, x .boards .apart 0 1 (0, omega arith, refl) (1, omega arith, refl) refl)
+
+-- K6 with its modes, or its operations, made one
+two-modes-not : (T : Table) → Renamed (modesBy (byRow (0 ∷ 0 ∷ []))) k6 T → ⊥
+two-modes-not T x = omega (arith, x .numbers .apart 0 1 (omega arith) (omega arith) refl)
+
+two-places-not : (T : Table) → Renamed (inOrder (byRow (0 ∷ 0 ∷ []))) k6 T → ⊥
+two-places-not T x = omega (arith, x .places .apart 0 1 (omega arith) (omega arith) refl)
+
+mode-beyond-not : Renamed (modesBy (byRow (1 ∷ []))) (oneMode 5 1 0 (opn 1 3 1 0 0 1 ∷ [])) (resorted 5 1 0 1 2 (1 ∷ []) (opn 1 3 1 0 0 2 ∷ []) nobody) → ⊥
+mode-beyond-not x = omega (arith, x .numbers .there 0 (omega arith))
+
+place-beyond-not : (T : Table) → Renamed (inOrder (byRow (2 ∷ 1 ∷ []))) k6 T → ⊥
+place-beyond-not T x = omega (arith, x .places .there 0 (omega arith), x .count)
+
+-- and where nothing else is wrong with it: two operations that do not differ, an operation like none, a mode that none follows. Such tables are
+-- refused: of one that is accepted these would follow from the rest.
+same-operations-not : Renamed (inOrder (byRow (0 ∷ 0 ∷ []))) (oneMode 4 1 0 (opn 0 1 1 0 0 1 ∷ opn 0 1 1 0 0 1 ∷ [])) (oneMode 4 1 0 (opn 0 1 1 0 0 1 ∷ opn 0 1 1 0 0 1 ∷ [])) → ⊥
+same-operations-not x = omega (arith, x .places .apart 0 1 (omega arith) (omega arith) refl)
+
+no-operation-not : Renamed (inOrder (byRow (1 ∷ []))) (oneMode 4 1 0 (opn 0 0 0 0 0 0 ∷ [])) (oneMode 4 1 0 (opn 3 1 1 0 0 1 ∷ [])) → ⊥
+no-operation-not x = omega (arith, x .places .there 0 (omega arith))
+
+none-follows-not : Renamed (modesBy (byRow (1 ∷ []))) (resorted 5 1 0 1 1 (0 ∷ []) (opn 1 3 1 0 0 1 ∷ []) nobody) (resorted 5 1 0 1 2 (1 ∷ []) (opn 1 3 1 0 0 2 ∷ []) nobody) → ⊥
+none-follows-not x = omega (arith, x .numbers .there 0 (omega arith))
+
+-- two modes in which no operation runs, with the same turns, are two
+idle-modes-not : Renamed (modesBy (byRow (0 ∷ 1 ∷ 1 ∷ []))) (resorted 5 1 0 3 1 (6 ∷ 1 ∷ 1 ∷ []) (k1 .ops) nobody) (resorted 5 1 0 3 1 (2 ∷ 1 ∷ 1 ∷ []) (k1 .ops) nobody) → ⊥
+idle-modes-not x = omega (arith, x .numbers .apart 1 2 (omega arith) (omega arith) refl)
+
+-- a board beyond the count that is in use needs a name within the new count too
+no-such-name-not : Renamed (boardsBy (byRow (9 ∷ 1 ∷ []))) no-such-board no-such-board → ⊥
+unfolding has
+no-such-name-not x = omega (arith, x .boards .there 1 (0, omega arith, refl))
+
 -- ---- tests of every number below n
 
 both : (t u : Bool) → (t && u) ≡ true → (t ≡ true) × (u ≡ true)
@@ -259,235 +488,6 @@ unfolding has opb modeb modeSet below backed numbersb renames into from
 sixteen-boards =
     renamed-by (boardsBy (byRow (15 ∷ 2 ∷ []))) (boardsBy (λ b. cond (eqb b 2) 1 0)) 2 16 (oneMode 5 2 0 (opn 1 3 3 0 0 1 ∷ [])) (oneMode 5 16 0 (opn 1 3 32772 0 0 1 ∷ []))
     refl refl refl refl refl (omega arith) refl refl refl refl
-
--- ---- not renamed: each of these differs in one thing from what was just shown
-
--- a table by its parts
-abbrev resorted : (len boards cells modes first : ℕ) → List ℕ → List Op → Decider → Table
-resorted len boards cells modes first follow os who =
-    record { len = len; boards = boards; cells = cells; modes = modes; first = first; follow = follow; ops = os; decider = who }
-
--- all three at once, but for first modes, turns and decider
-abbrev sortedHead : ℕ → List ℕ → Decider → Table
-sortedHead first follow who = resorted 6 5 1 2 first follow (sorted .ops) who
-
--- but for operation 1, which stands first: [2,5) on board 4 reads c0 in the cold, now mode 1
-abbrev sortedOp : Op → Table
-sortedOp o = resorted 6 5 1 2 2 (2 ∷ 3 ∷ []) (o ∷ opn 4 1 1 1 0 1 ∷ held 0 2 1 2 0 1 3 ∷ []) (decides 2)
-
-Sorted : Table → Type 0
-Sorted T = Renamed allThree sorted-before T
-
--- another length, another number of cells, of modes, of operations, of words; a count of boards that does not cover the new names; one beyond 16
-len-not : Sorted (resorted 7 5 1 2 2 (2 ∷ 3 ∷ []) (sorted .ops) (decides 2)) → ⊥
-unfolding Sorted
-len-not x = omega (arith, x .len)
-
-cells-not : Sorted (resorted 6 5 2 2 2 (2 ∷ 3 ∷ []) (sorted .ops) (decides 2)) → ⊥
-unfolding Sorted
-cells-not x = omega (arith, x .cells)
-
-mode-more-not : Sorted (resorted 6 5 1 3 2 (2 ∷ 3 ∷ []) (sorted .ops) (decides 2)) → ⊥
-unfolding Sorted
-mode-more-not x = omega (arith, x .modes)
-
-op-more-not : Sorted (resorted 6 5 1 2 2 (2 ∷ 3 ∷ []) (sorted .ops ++ (opn 5 1 8 0 0 1 ∷ [])) (decides 2)) → ⊥
-unfolding Sorted
-op-more-not x = omega (arith, x .count)
-
-word-more-not : Sorted (sortedHead 2 (2 ∷ 3 ∷ 1 ∷ []) (decides 2)) → ⊥
-unfolding Sorted
-word-more-not x = omega (arith, x .words)
-
-not-covered : Sorted (resorted 6 4 1 2 2 (2 ∷ 3 ∷ []) (sorted .ops) (decides 2)) → ⊥
-unfolding Sorted has
-not-covered x = omega (arith, x .boards .there 1 (1, omega arith, refl))
-
-boards-17-not : Sorted (resorted 6 17 1 2 2 (2 ∷ 3 ∷ []) (sorted .ops) (decides 2)) → ⊥
-unfolding Sorted
-boards-17-not x = omega (arith, x .boards-high)
-
--- what is in a set with one member, 0, is taken to 1 by the exchange of cold and warm
-not-zero : (a : ℕ) → In a 1 → allThree .mode a ≡ 0 → ⊥
-not-zero zero x e = omega arith
-not-zero (suc a) x e = in-small 1 1 (suc a) (omega arith) (omega arith) x
-
--- first modes left behind; one more; turns left behind; one more; one less
-first-left-not : Sorted (sortedHead 1 (2 ∷ 3 ∷ []) (decides 2)) → ⊥
-unfolding Sorted has
-first-left-not x = false≢true (x .firsts 1 .1 (0, refl, refl))
-
-first-more-not : Sorted (sortedHead 3 (2 ∷ 3 ∷ []) (decides 2)) → ⊥
-unfolding Sorted has
-first-more-not x = let (a, is, to) = x .firsts 0 .0 refl in not-zero a is to
-
-turns-left-not : Sorted (sortedHead 2 (3 ∷ 1 ∷ []) (decides 2)) → ⊥
-unfolding Sorted has
-turns-left-not x = false≢true (x .turns 0 (omega arith) 1 .1 (0, refl, refl))
-
-turn-more-not : Sorted (sortedHead 2 (3 ∷ 3 ∷ []) (decides 2)) → ⊥
-unfolding Sorted has
-turn-more-not x = let (a, is, to) = x .turns 1 (omega arith) 0 .0 refl in not-zero a is to
-
-turn-less-not : Sorted (sortedHead 2 (2 ∷ 2 ∷ []) (decides 2)) → ⊥
-unfolding Sorted has
-turn-less-not x = false≢true (x .turns 0 (omega arith) 0 .1 (1, refl, refl))
-
--- the decider's number left behind; nobody
-decider-left-not : Sorted (sortedHead 2 (2 ∷ 3 ∷ []) (decides 0)) → ⊥
-unfolding Sorted
-decider-left-not x = let e = x .decider in let z : _≡_ {A = ℕ} 0 2 = cc in omega arith
-
-decider-none-not : Sorted (sortedHead 2 (2 ∷ 3 ∷ []) nobody) → ⊥
-unfolding Sorted
-decider-none-not x = let e = x .decider in let z : _≡_ {A = ℕ} 1 0 = cc in omega arith
-
--- the operations where they were; a date, a hold, a cell more or less; boards and modes left behind, one more
-order-left-not : Sorted (resorted 6 5 1 2 2 (2 ∷ 3 ∷ []) (held 0 2 1 2 0 1 3 ∷ opn 2 3 16 1 0 2 ∷ opn 4 1 1 1 0 1 ∷ []) (decides 2)) → ⊥
-unfolding Sorted
-order-left-not x = omega (arith, x .each 0 (omega arith) .start)
-
-start-not : Sorted (sortedOp (opn 3 3 16 1 0 2)) → ⊥
-unfolding Sorted
-start-not x = omega (arith, x .each 1 (omega arith) .start)
-
-dur-not : Sorted (sortedOp (opn 2 2 16 1 0 2)) → ⊥
-unfolding Sorted
-dur-not x = omega (arith, x .each 1 (omega arith) .dur)
-
-hold-not : Sorted (sortedOp (held 2 3 1 16 1 0 2)) → ⊥
-unfolding Sorted
-hold-not x = omega (arith, x .each 1 (omega arith) .hold)
-
-reads-not : Sorted (sortedOp (opn 2 3 16 0 0 2)) → ⊥
-unfolding Sorted
-reads-not x = omega (arith, x .each 1 (omega arith) .reads)
-
-writes-not : Sorted (sortedOp (opn 2 3 16 1 1 2)) → ⊥
-unfolding Sorted
-writes-not x = omega (arith, x .each 1 (omega arith) .writes)
-
-boards-left-not : Sorted (sortedOp (opn 2 3 2 1 0 2)) → ⊥
-unfolding Sorted has
-boards-left-not x = false≢true (x .each 1 (omega arith) .boards 4 .1 (1, refl, refl))
-
-board-more-not : Sorted (sortedOp (opn 2 3 24 1 0 2)) → ⊥
-unfolding Sorted has
-board-more-not x = let (b, is, to) = x .each 1 (omega arith) .boards 3 .0 refl in go b is to
-  where
-    go : (b : ℕ) → In b 2 → allThree .board b ≡ 3 → ⊥
-    go zero is to = omega arith
-    go (suc zero) is to = omega arith
-    go (suc (suc b)) is to = in-small 2 2 (suc (suc b)) (omega arith) (omega arith) is
-
-modes-left-not : Sorted (sortedOp (opn 2 3 16 1 0 1)) → ⊥
-unfolding Sorted has
-modes-left-not x = false≢true (x .each 1 (omega arith) .modes 1 .1 (0, refl, refl))
-
-mode-set-more-not : Sorted (sortedOp (opn 2 3 16 1 0 3)) → ⊥
-unfolding Sorted has
-mode-set-more-not x = let (a, is, to) = x .each 1 (omega arith) .modes 0 .0 refl in not-zero a is to
-
--- the same of the other two, and less where it was more: a date, a hold, a cell; boards and modes one less. Behind operation 1 stands 2, [4,5) on board
--- 0 in the warm, and then 0, with the hold.
-abbrev sortedOthers : Op → Op → Table
-sortedOthers o u = resorted 6 5 1 2 2 (2 ∷ 3 ∷ []) (opn 2 3 16 1 0 2 ∷ o ∷ u ∷ []) (decides 2)
-
-start-less-not : Sorted (sortedOthers (opn 3 1 1 1 0 1) (held 0 2 1 2 0 1 3)) → ⊥
-unfolding Sorted
-start-less-not x = omega (arith, x .each 2 (omega arith) .start)
-
-dur-more-not : Sorted (sortedOthers (opn 4 2 1 1 0 1) (held 0 2 1 2 0 1 3)) → ⊥
-unfolding Sorted
-dur-more-not x = omega (arith, x .each 2 (omega arith) .dur)
-
-hold-less-not : Sorted (sortedOthers (opn 4 1 1 1 0 1) (held 0 2 0 2 0 1 3)) → ⊥
-unfolding Sorted
-hold-less-not x = omega (arith, x .each 0 (omega arith) .hold)
-
-reads-more-not : Sorted (sortedOthers (opn 4 1 1 1 0 1) (held 0 2 1 2 1 1 3)) → ⊥
-unfolding Sorted
-reads-more-not x = omega (arith, x .each 0 (omega arith) .reads)
-
-writes-less-not : Sorted (sortedOthers (opn 4 1 1 1 0 1) (held 0 2 1 2 0 0 3)) → ⊥
-unfolding Sorted
-writes-less-not x = omega (arith, x .each 0 (omega arith) .writes)
-
-board-less-not : Sorted (sortedOthers (opn 4 1 0 1 0 1) (held 0 2 1 2 0 1 3)) → ⊥
-unfolding Sorted has
-board-less-not x = false≢true (x .each 2 (omega arith) .boards 0 .1 (2, refl, refl))
-
-mode-set-less-not : Sorted (sortedOthers (opn 4 1 1 1 0 1) (held 0 2 1 2 0 1 1)) → ⊥
-unfolding Sorted has
-mode-set-less-not x = false≢true (x .each 0 (omega arith) .modes 1 .1 (0, refl, refl))
-
--- a shorter length, a cell less, a word less; no first mode; a decider where nobody decided
-len-less-not : Sorted (resorted 5 5 1 2 2 (2 ∷ 3 ∷ []) (sorted .ops) (decides 2)) → ⊥
-unfolding Sorted
-len-less-not x = omega (arith, x .len)
-
-cells-less-not : Sorted (resorted 6 5 0 2 2 (2 ∷ 3 ∷ []) (sorted .ops) (decides 2)) → ⊥
-unfolding Sorted
-cells-less-not x = omega (arith, x .cells)
-
-word-less-not : Renamed (inOrder (λ i. i)) (resorted 5 1 0 1 1 (1 ∷ 0 ∷ []) (k1 .ops) nobody) k1 → ⊥
-word-less-not x = omega (arith, x .words)
-
-first-less-not : Sorted (sortedHead 0 (2 ∷ 3 ∷ []) (decides 2)) → ⊥
-unfolding Sorted has
-first-less-not x = false≢true (x .firsts 1 .1 (0, refl, refl))
-
-decider-other-not : Sorted (sortedHead 2 (2 ∷ 3 ∷ []) (decides 1)) → ⊥
-unfolding Sorted
-decider-other-not x = let e = x .decider in let z : _≡_ {A = ℕ} 1 2 = cc in omega arith
-
-decider-new-not : Renamed turnedRound k2 (resorted 6 3 2 1 1 (1 ∷ []) (k2-turned .ops) (decides 2)) → ⊥
-decider-new-not x = let e = x .decider in let z : _≡_ {A = ℕ} 1 0 = cc in omega arith
-
--- a member beyond every count
-member-beyond-not : RenamedSet (λ a. a) 0 (2 ^ 32) → ⊥
-unfolding has
-member-beyond-not x = let (a, is, to) = x 32 .0 refl in in-small 0 0 a (omega arith) (omega arith) is
-
--- ---- maps that are not one to one: two boards, two modes, two operations to one; a name beyond the count
-
--- K4 on two boards, and on one
-two-boards-not : Renamed (boardsBy (byRow (0 ∷ 0 ∷ []))) (oneMode 4 2 0 (opn 0 1 1 0 0 1 ∷ opn 3 1 2 0 0 1 ∷ [])) (oneMode 4 2 0 (opn 0 1 1 0 0 1 ∷ opn 3 1 1 0 0 1 ∷ [])) → ⊥
-unfolding has
-two-boards-not x = omega (arith, x .boards .apart 0 1 (0, omega arith, refl) (1, omega arith, refl) refl)
-
--- K6 with its modes, or its operations, made one
-two-modes-not : (T : Table) → Renamed (modesBy (byRow (0 ∷ 0 ∷ []))) k6 T → ⊥
-two-modes-not T x = omega (arith, x .numbers .apart 0 1 (omega arith) (omega arith) refl)
-
-two-places-not : (T : Table) → Renamed (inOrder (byRow (0 ∷ 0 ∷ []))) k6 T → ⊥
-two-places-not T x = omega (arith, x .places .apart 0 1 (omega arith) (omega arith) refl)
-
-mode-beyond-not : Renamed (modesBy (byRow (1 ∷ []))) (oneMode 5 1 0 (opn 1 3 1 0 0 1 ∷ [])) (resorted 5 1 0 1 2 (1 ∷ []) (opn 1 3 1 0 0 2 ∷ []) nobody) → ⊥
-mode-beyond-not x = omega (arith, x .numbers .there 0 (omega arith))
-
-place-beyond-not : (T : Table) → Renamed (inOrder (byRow (2 ∷ 1 ∷ []))) k6 T → ⊥
-place-beyond-not T x = omega (arith, x .places .there 0 (omega arith), x .count)
-
--- and where nothing else is wrong with it: two operations that do not differ, an operation like none, a mode that none follows. Such tables are
--- refused: of one that is accepted these would follow from the rest.
-same-operations-not : Renamed (inOrder (byRow (0 ∷ 0 ∷ []))) (oneMode 4 1 0 (opn 0 1 1 0 0 1 ∷ opn 0 1 1 0 0 1 ∷ [])) (oneMode 4 1 0 (opn 0 1 1 0 0 1 ∷ opn 0 1 1 0 0 1 ∷ [])) → ⊥
-same-operations-not x = omega (arith, x .places .apart 0 1 (omega arith) (omega arith) refl)
-
-no-operation-not : Renamed (inOrder (byRow (1 ∷ []))) (oneMode 4 1 0 (opn 0 0 0 0 0 0 ∷ [])) (oneMode 4 1 0 (opn 3 1 1 0 0 1 ∷ [])) → ⊥
-no-operation-not x = omega (arith, x .places .there 0 (omega arith))
-
-none-follows-not : Renamed (modesBy (byRow (1 ∷ []))) (resorted 5 1 0 1 1 (0 ∷ []) (opn 1 3 1 0 0 1 ∷ []) nobody) (resorted 5 1 0 1 2 (1 ∷ []) (opn 1 3 1 0 0 2 ∷ []) nobody) → ⊥
-none-follows-not x = omega (arith, x .numbers .there 0 (omega arith))
-
--- two modes in which no operation runs, with the same turns, are two
-idle-modes-not : Renamed (modesBy (byRow (0 ∷ 1 ∷ 1 ∷ []))) (resorted 5 1 0 3 1 (6 ∷ 1 ∷ 1 ∷ []) (k1 .ops) nobody) (resorted 5 1 0 3 1 (2 ∷ 1 ∷ 1 ∷ []) (k1 .ops) nobody) → ⊥
-idle-modes-not x = omega (arith, x .numbers .apart 1 2 (omega arith) (omega arith) refl)
-
--- a board beyond the count that is in use needs a name within the new count too
-no-such-name-not : Renamed (boardsBy (byRow (9 ∷ 1 ∷ []))) no-such-board no-such-board → ⊥
-unfolding has
-no-such-name-not x = omega (arith, x .boards .there 1 (0, omega arith, refl))
 
 -- ---- rows that moved with their operations, and rows that did not
 k2-rows-moved : Moved (turnedRound .place) (replyOf k2 2) (replyOf k2-turned 2)

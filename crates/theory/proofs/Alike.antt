@@ -6,14 +6,13 @@ use mathlib.Core.Path.{sym, ap, subst, subst⁻¹, _∙_}
 use mathlib.Core.Logic.{_↔_, inl, inr}
 use native.Mathlib.Decide.{decLt}
 use native.Mathlib.Omega.{arith}
-use lib.ListN.{List·getD-eq-default}
 use Rattle.rules.specs.Sets.{In, Share}
 use Rattle.rules.specs.Table.{Table, nops, op, followers, Turn, Clash, Contest, Race, Always, DecidedBy, Accepted}
 use Rattle.rules.specs.Runs.{BoardsRightAt, ValuesRightAt, RightAt, IsPeriod, spaced}
 use Rattle.theory.specs.Carry.{Carry}
 use Rattle.theory.specs.Renamed.{OpAlike, Alike}
 use Rattle.theory.proofs.Sets.{in-none, in-small}
-use Rattle.theory.proofs.Exists.{followers-lt}
+use Rattle.theory.proofs.Exists.{no-followers, followers-lt}
 use Rattle.theory.proofs.Carry.{carry-boards, carry-values, carry-right}
 
 -- ---- the other way round
@@ -136,9 +135,9 @@ turn-modes S ok a b x = (go (decLt a (S .modes)), in-small b (S .modes) (followe
   where
     go : Dec (a < S .modes) → a < S .modes
     go (yes h) = h
-    go (no h) = absurd (in-none b (subst (λ (y : ℕ). In b y) (List·getD-eq-default (S .follow) 0 {n = a} (omega (arith, ok .words))) x))
+    go (no h) = absurd (in-none b (subst (λ (y : ℕ). In b y) (no-followers S ok a (omega arith)) x))
 
-module _ (S T : Table) (s t f g : ℕ → ℕ) (okS : Accepted S) (okT : Accepted T) (c : Alike S T s t f g) where
+module _ (S T : Table) (s t f g : ℕ → ℕ) (okS : Accepted S) (c : Alike S T s t f g) where
   alike-carry : Carry S T s t f
   alike-carry =
       record {
@@ -162,24 +161,22 @@ module _ (S T : Table) (s t f g : ℕ → ℕ) (okS : Accepted S) (okT : Accepte
         turns = λ a b x. let (la, lb) = turn-modes S okS a b x in c .turns a b la lb .0 x;
       }
 
-  from-boards : (d : ℕ → ℕ) → BoardsRightAt T d → BoardsRightAt S d
-  from-boards = carry-boards S T s t f alike-carry okS
-
-  from-values : (d : ℕ → ℕ) → ValuesRightAt T d → ValuesRightAt S d
-  from-values = carry-values S T s t f alike-carry okS okT
-
-  from-right : (d : ℕ → ℕ) → RightAt T d → RightAt S d
-  from-right = carry-right S T s t f alike-carry okS okT
-
+-- there and back
 module _ (S T : Table) (s t f g : ℕ → ℕ) (okS : Accepted S) (okT : Accepted T) (c : Alike S T s t f g) where
+  there : Carry S T s t f
+  there = alike-carry S T s t f g okS c
+
+  back : Carry T S t s g
+  back = alike-carry T S t s g f okT (turned S T s t f g c)
+
   pub alike-boards : (d : ℕ → ℕ) → BoardsRightAt S d ↔ BoardsRightAt T d
-  alike-boards d = (from-boards T S t s g f okT okS (turned S T s t f g c) d, from-boards S T s t f g okS okT c d)
+  alike-boards d = (carry-boards T S t s g back okT d, carry-boards S T s t f there okS d)
 
   pub alike-values : (d : ℕ → ℕ) → ValuesRightAt S d ↔ ValuesRightAt T d
-  alike-values d = (from-values T S t s g f okT okS (turned S T s t f g c) d, from-values S T s t f g okS okT c d)
+  alike-values d = (carry-values T S t s g back okT okS d, carry-values S T s t f there okS okT d)
 
   pub alike-right : (d : ℕ → ℕ) → RightAt S d ↔ RightAt T d
-  alike-right d = (from-right T S t s g f okT okS (turned S T s t f g c) d, from-right S T s t f g okS okT c d)
+  alike-right d = (carry-right T S t s g back okT okS d, carry-right S T s t f there okS okT d)
 
   pub alike-period : (q : ℕ) → IsPeriod S q → IsPeriod T q
   alike-period q x =

@@ -75,14 +75,16 @@ step-lt (f ∷ fs) k s h =
     or-lt k (cond (has s 0) f 0) _ (cond-lt (has s 0) f (2 ^ k) (h 0)) (step-lt fs k _ (λ a. h (suc a)))
 
 module _ (T : Table) (ok : Accepted T) where
+  -- nothing follows a mode that the table does not have
+  pub no-followers : (a : ℕ) → T .modes ≤ a → followers T a ≡ 0
+  no-followers a h = List·getD-eq-default (T .follow) 0 {n = a} (omega (arith, ok .words))
+
   pub followers-lt : (a : ℕ) → followers T a < 2 ^ T .modes
   followers-lt a = go (decLt a (T .modes))
     where
       go : Dec (a < T .modes) → followers T a < 2 ^ T .modes
       go (yes h) = ok .follows a h .small
-      go (no h) =
-          subst (λ (x : ℕ). x < 2 ^ T .modes) (sym (List·getD-eq-default (T .follow) 0 {n = a} (omega (arith, ok .words))))
-          (pow-pos (T .modes))
+      go (no h) = omega (arith, no-followers a (omega arith), pow-pos (T .modes))
 
   -- a run has modes of the table
   pub run-mode : (r : List ℕ) → IsRun T r → (k : ℕ) → k < length r → mode r k < T .modes

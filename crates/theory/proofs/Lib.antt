@@ -34,7 +34,7 @@ pub mod Saying
 pub mod Copies
 pub mod RoundTrip
 pub mod Keeps
-pub mod Sorted
+pub mod RenamedAnswers
 pub mod Margins
 pub mod DeciderBefore
 pub mod Holds

@@ -136,8 +136,8 @@ module _ (by : Names) (S T : Table) (ok : Accepted S) (re : Renamed by S T) wher
   decided nobody x = x
   decided (decides d) x = decided-alike S T (by .place) placeBack (by .mode) modeBack renamed-alike d x
 
-  in-modes : (u : ℕ) → u < nops T → (m : ℕ) → In m (op T u .modes) → m < T .modes
-  in-modes u h m = in-small m (T .modes) (op T u .modes) (each-ok u h .modes .small)
+  new-modes : (u : ℕ) → u < nops T → (m : ℕ) → In m (op T u .modes) → m < T .modes
+  new-modes u h m = in-small m (T .modes) (op T u .modes) (each-ok u h .modes .small)
 
   pub renamed-accepted : Accepted T
   renamed-accepted =
@@ -158,11 +158,11 @@ module _ (by : Names) (S T : Table) (ok : Accepted S) (re : Renamed by S T) wher
         no-clash = λ u v less h x.
             let hu : u < nops T = omega arith in
             never-clash S ok (placeBack u) (placeBack v) (from-place u hu .0) (from-place v h .0) (two-places u v less h)
-            (clash-alike T S placeBack (by .place) modeBack (by .mode) back-alike u v hu h (in-modes u hu) x);
+            (clash-alike T S placeBack (by .place) modeBack (by .mode) back-alike u v hu h (new-modes u hu) x);
         no-race = λ u v less h x.
             let hu : u < nops T = omega arith in
             never-race S ok (placeBack u) (placeBack v) (from-place u hu .0) (from-place v h .0) (two-places u v less h)
-            (race-alike T S placeBack (by .place) modeBack (by .mode) back-alike u v hu h (in-modes u hu) x);
+            (race-alike T S placeBack (by .place) modeBack (by .mode) back-alike u v hu h (new-modes u hu) x);
         decided = subst⁻¹ (λ (who : Decider). Decided T who) (re .decider) (decided (S .decider) (ok .decided));
       }
 

@@ -6,9 +6,9 @@ use mathlib.Core.Logic.{_↔_, _⊎_, inl, inr}
 use native.Mathlib.Nat.{div-one, div-div-eq-div-mul, pow-suc, mul-comm, div-eq-of-lt, zero-div, zero-min, min-zero, suc-min-suc}
 use native.Mathlib.Decide.{ℕ-discrete}
 use native.Mathlib.Omega.{arith}
+use borrow.Author.Tests.{eqb-true}
 use lib.Dec.{eqb}
 use lib.Pow.{pow-mono}
-use borrow.Author.Tests.{eqb-true}
 use lib.Bits.{bitAnd, bitOr, bitXor, differ, and-step, or-step, xor-step, and-shr, or-shr, xor-shr, and-le-l, and-le-r, xor-add-and}
 use Rattle.rules.specs.Sets.{has, In, Share, Within, shares}
 use Rattle.theory.specs.Tests.{without}

@@ -56,6 +56,7 @@ unfoldable pub spread : {A : Type 0} → (ℕ → ℕ) → (ℕ → A) → ℕ �
 spread f g zero xs = xs
 spread f g (suc n) xs = set (spread f g n xs) (f n) (g n)
 
+-- an operation of T by its new names
 abbrev pub renamedOp : Names → Table → Op → Op
 renamedOp by T o =
     record {
@@ -68,7 +69,7 @@ renamedOp by T o =
       modes = image (by .mode) (T .modes) (o .modes);
     }
 
--- with n boards
+-- T by its new names and in its new order, with n boards
 unfoldable pub renamedTable : Names → ℕ → Table → Table
 unfolding image spread
 renamedTable by n T =

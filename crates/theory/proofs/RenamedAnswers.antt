@@ -45,42 +45,42 @@ module _ (by : Names) (s : List ℕ) (S T : Table) (read : judge s ≡ accepted 
   t = tableBytes T
 
   -- they are accepted
-  pub sorted-read : judge t ≡ accepted T
-  sorted-read = write-read T (renamed-accepted by S T (judge-accepted s S read) re)
+  pub read-renamed : judge t ≡ accepted T
+  read-renamed = write-read T (renamed-accepted by S T (judge-accepted s S read) re)
 
   -- the same period
-  pub period-sorted : (v : Verdict ℕ) → IsPeriodOf s v → IsPeriodOf t v
-  period-sorted v x =
+  pub period-renamed : (v : Verdict ℕ) → IsPeriodOf s v → IsPeriodOf t v
+  period-renamed v x =
       let (q, is, e) = answered-back IsPeriod (judge s) v x read in
-      subst (λ (u : Verdict ℕ). IsPeriodOf t u) (sym e) (accepted-answers IsPeriod sorted-read (renamed-period by S T (judge-accepted s S read) re q .0 is))
+      subst (λ (u : Verdict ℕ). IsPeriodOf t u) (sym e) (accepted-answers IsPeriod read-renamed (renamed-period by S T (judge-accepted s S read) re q .0 is))
 
   -- a reply, with the rows moved
-  pub reply-sorted : (R : Reply) → ReplyTo s (accepted R) → (U : Reply) × ReplyTo t (accepted U) × Moved (by .place) R U
-  reply-sorted R x =
+  pub reply-renamed : (R : Reply) → ReplyTo s (accepted R) → (U : Reply) × ReplyTo t (accepted U) × Moved (by .place) R U
+  reply-renamed R x =
       let (U, seen, planned) = answered-first Planned (judge s) (accepted R) x refl in
       let (q, is, e) = planned in
       let same : U ≡ S = cc (seen, read) in
       let period : IsPeriod S q = rw same at is in
       let whole : R ≡ replyOf S q = e ∙ ap (λ (x : Table). replyOf x q) same in (
         replyOf T q,
-        accepted-answers Planned sorted-read (q, renamed-period by S T (judge-accepted s S read) re q .0 period, refl),
+        accepted-answers Planned read-renamed (q, renamed-period by S T (judge-accepted s S read) re q .0 period, refl),
         subst (λ (x : Reply). Moved (by .place) x (replyOf T q)) (sym whole) (renamed-rows by S T (judge-accepted s S read) re q),
       )
 
   -- fold: the text of that reply
-  pub text-sorted : (b : List ℕ) → IsText s b → (R : Reply) × (U : Reply) × Moved (by .place) R U × (b ≡ replyText R) × IsText t (replyText U)
+  pub text-renamed : (b : List ℕ) → IsText s b → (R : Reply) × (U : Reply) × Moved (by .place) R U × (b ≡ replyText R) × IsText t (replyText U)
   unfolding textOf
-  text-sorted b (v, x, e) =
+  text-renamed b (v, x, e) =
       let (R, planned, told) = answered-back Planned (judge s) v x read in
-      let (U, y, moved) = reply-sorted R (subst (λ (u : Verdict Reply). ReplyTo s u) told x) in
+      let (U, y, moved) = reply-renamed R (subst (λ (u : Verdict Reply). ReplyTo s u) told x) in
       (R, U, moved, e ∙ ap textOf told, (accepted U, y, refl))
 
   -- plan: where it answers the first bytes, it answers the second, given room: as many bytes, the same period and the moved rows, and the rest of
   -- each buffer as it was
-  pub plan-sorted : (out out′ : List ℕ) (w x : Written) (n : ℕ) → IsPlan s out w → w .answer ≡ accepted n → n ≤ length out′ → IsPlan t out′ x
+  pub plan-renamed : (out out′ : List ℕ) (w x : Written) (n : ℕ) → IsPlan s out w → w .answer ≡ accepted n → n ≤ length out′ → IsPlan t out′ x
       → (R : Reply) × (U : Reply) × ReplyTo s (accepted R) × ReplyTo t (accepted U) × Moved (by .place) R U
       × (w .buffer ≡ replyBytes R ++ drop n out) × (x .answer ≡ accepted n) × (x .buffer ≡ replyBytes U ++ drop n out′)
-  plan-sorted out out′ w x n plan done room plan′ = go (decLt (length out) (5 + 7 * nops S))
+  plan-renamed out out′ w x n plan done room plan′ = go (decLt (length out) (5 + 7 * nops S))
     where
       go : Dec (length out < 5 + 7 * nops S)
           → (R : Reply) × (U : Reply) × ReplyTo s (accepted R) × ReplyTo t (accepted U) × Moved (by .place) R U
@@ -91,12 +91,12 @@ module _ (by : Names) (s : List ℕ) (S T : Table) (read : judge s ≡ accepted 
           let (q, is, told, wrote) = plan-replies s out S w read (omega arith) plan in
           let size : 5 + 7 * nops S ≡ n = cc (told, done) in
           let size′ : 5 + 7 * nops T ≡ n = omega (arith, size, re .count) in
-          let (p, is′, told′, wrote′) = plan-replies t out′ T x sorted-read (omega arith) plan′ in
+          let (p, is′, told′, wrote′) = plan-replies t out′ T x read-renamed (omega arith) plan′ in
           let same : p ≡ q = period-unique T p q is′ (renamed-period by S T ok re q .0 is) in (
             replyOf S q,
             replyOf T q,
             accepted-answers Planned read (q, is, refl),
-            accepted-answers Planned sorted-read (q, renamed-period by S T ok re q .0 is, refl),
+            accepted-answers Planned read-renamed (q, renamed-period by S T ok re q .0 is, refl),
             renamed-rows by S T ok re q,
             wrote ∙ ap (λ (k : ℕ). replyBytes (replyOf S q) ++ drop k out) size,
             told′ ∙ ap accepted size′,
@@ -107,16 +107,16 @@ module _ (by : Names) (s : List ℕ) (S T : Table) (read : judge s ≡ accepted 
 
   -- the two questions of document 02, No. 10: the same answer for every q, ASK included
   module _ (P : Table → ℕ → Type 0) (q : ℕ) (same : P S q ↔ P T q) where
-    yes-sorted : (v : Verdict Bool) → YesNo P s q v → YesNo P t q v
+    yes-renamed : (v : Verdict Bool) → YesNo P s q v → YesNo P t q v
     unfolding Answers
-    yes-sorted v x = go (known (leb 1 q && leb q (S .len)))
+    yes-renamed v x = go (known (leb 1 q && leb q (S .len)))
       where
         asks : askedTable s q ≡ (periodAsked S q 0 then accepted S)
         asks = onwards-accepts (λ U. periodAsked U q 0 then accepted U) read
 
         asks′ : askedTable t q ≡ (periodAsked S q 0 then accepted T)
         asks′ =
-            onwards-accepts (λ U. periodAsked U q 0 then accepted U) sorted-read
+            onwards-accepts (λ U. periodAsked U q 0 then accepted U) read-renamed
             ∙ ap (λ (p : ℕ). asked (leb 1 q && leb q p) 0 then accepted T) (re .len)
 
         go : Known (leb 1 q && leb q (S .len)) → YesNo P t q v
@@ -130,20 +130,20 @@ module _ (by : Names) (s : List ℕ) (S T : Table) (read : judge s ≡ accepted 
             let no′ = asks′ ∙ then-refuses (accepted T) (asked-no _ 0 e) in
             subst⁻¹ (λ (u : Verdict Table). Answers (YesFor P q) u v) no′ (subst (λ (u : Verdict Table). Answers (YesFor P q) u v) no x)
 
-  pub boards-sorted : (q : ℕ) (v : Verdict Bool) → BoardsFit s q v → BoardsFit t q v
-  boards-sorted q = yes-sorted Fit q (renamed-boards by S T (judge-accepted s S read) re (spaced q))
+  pub boards-renamed : (q : ℕ) (v : Verdict Bool) → BoardsFit s q v → BoardsFit t q v
+  boards-renamed q = yes-renamed Fit q (renamed-boards by S T (judge-accepted s S read) re (spaced q))
 
-  pub values-sorted : (q : ℕ) (v : Verdict Bool) → ValuesArrive s q v → ValuesArrive t q v
-  values-sorted q = yes-sorted Arrive q (renamed-values by S T (judge-accepted s S read) re (spaced q))
+  pub values-renamed : (q : ℕ) (v : Verdict Bool) → ValuesArrive s q v → ValuesArrive t q v
+  values-renamed q = yes-renamed Arrive q (renamed-values by S T (judge-accepted s S read) re (spaced q))
 
   -- the margin, i and j moved: the same answer for every n and q, ASK included
-  pub margin-sorted : (i j n q : ℕ) (v : Verdict ℤ) → i < nops S → j < nops S → IsMargin s i j n q v → IsMargin t (by .place i) (by .place j) n q v
-  margin-sorted i j n q v hi hj e =
+  pub margin-renamed : (i j n q : ℕ) (v : Verdict ℤ) → i < nops S → j < nops S → IsMargin s i j n q v → IsMargin t (by .place i) (by .place j) n q v
+  margin-renamed i j n q v hi hj e =
       e
       ∙ onwards-accepts (λ U. marginTest U i j n q then accepted (margin U i j n q)) read
       ∙ ap (λ (u : Test). u then accepted (margin S i j n q)) tests
       ∙ ap (λ (z : ℤ). marginTest T (by .place i) (by .place j) n q then accepted z) (sym (renamed-margin by S T (judge-accepted s S read) re i j n q hi hj))
-      ∙ sym (onwards-accepts (λ U. marginTest U (by .place i) (by .place j) n q then accepted (margin U (by .place i) (by .place j) n q)) sorted-read)
+      ∙ sym (onwards-accepts (λ U. marginTest U (by .place i) (by .place j) n q then accepted (margin U (by .place i) (by .place j) n q)) read-renamed)
     where
       tests : marginTest S i j n q ≡ marginTest T (by .place i) (by .place j) n q
       tests =
