@@ -489,27 +489,7 @@ sixteen-boards =
     renamed-by (boardsBy (byRow (15 ∷ 2 ∷ []))) (boardsBy (λ b. cond (eqb b 2) 1 0)) 2 16 (oneMode 5 2 0 (opn 1 3 3 0 0 1 ∷ [])) (oneMode 5 16 0 (opn 1 3 32772 0 0 1 ∷ []))
     refl refl refl refl refl (omega arith) refl refl refl refl
 
--- ---- rows that moved with their operations, and rows that did not
-k2-rows-moved : Moved (turnedRound .place) (replyOf k2 2) (replyOf k2-turned 2)
-unfolding replyOf
-k2-rows-moved = record { period = refl; count = refl; places = k2-is-turned .places; each = rows }
-  where
-    rows : (i : ℕ) → i < 3 → getD (replyOf k2-turned 2 .rows) (turnedRound .place i) noRow ≡ getD (replyOf k2 2 .rows) i noRow
-    rows zero h = refl
-    rows (suc zero) h = refl
-    rows (suc (suc zero)) h = refl
-    rows (suc (suc (suc i))) h = absurd (omega arith)
-
-sorted-rows-moved : Moved (allThree .place) (replyOf sorted-before 3) (replyOf sorted 3)
-unfolding replyOf
-sorted-rows-moved = record { period = refl; count = refl; places = sorted-is-renamed .places; each = rows }
-  where
-    rows : (i : ℕ) → i < 3 → getD (replyOf sorted 3 .rows) (allThree .place i) noRow ≡ getD (replyOf sorted-before 3 .rows) i noRow
-    rows zero h = refl
-    rows (suc zero) h = refl
-    rows (suc (suc zero)) h = refl
-    rows (suc (suc (suc i))) h = absurd (omega arith)
-
+-- ---- rows that did not move with their operations: left where they were, with another period, one more
 rows-left-not : Moved (turnedRound .place) (replyOf k2 2) (replyOf k2 2) → ⊥
 unfolding replyOf
 rows-left-not x = omega (arith, ap (λ (r : Row). r .fst .number) (x .each 0 (omega arith)))
@@ -545,6 +525,27 @@ two-rows-not x = omega (arith, x .places .apart 0 1 (omega arith) (omega arith) 
 
 row-beyond-not : Moved (λ i. 9) (record { period = ticks 2; rows = row 0 0 ∷ [] }) (record { period = ticks 2; rows = row 1 1 ∷ [] }) → ⊥
 row-beyond-not x = omega (arith, x .places .there 0 (omega arith))
+
+-- and rows that did
+k2-rows-moved : Moved (turnedRound .place) (replyOf k2 2) (replyOf k2-turned 2)
+unfolding replyOf
+k2-rows-moved = record { period = refl; count = refl; places = k2-is-turned .places; each = rows }
+  where
+    rows : (i : ℕ) → i < 3 → getD (replyOf k2-turned 2 .rows) (turnedRound .place i) noRow ≡ getD (replyOf k2 2 .rows) i noRow
+    rows zero h = refl
+    rows (suc zero) h = refl
+    rows (suc (suc zero)) h = refl
+    rows (suc (suc (suc i))) h = absurd (omega arith)
+
+sorted-rows-moved : Moved (allThree .place) (replyOf sorted-before 3) (replyOf sorted 3)
+unfolding replyOf
+sorted-rows-moved = record { period = refl; count = refl; places = sorted-is-renamed .places; each = rows }
+  where
+    rows : (i : ℕ) → i < 3 → getD (replyOf sorted 3 .rows) (allThree .place i) noRow ≡ getD (replyOf sorted-before 3 .rows) i noRow
+    rows zero h = refl
+    rows (suc zero) h = refl
+    rows (suc (suc zero)) h = refl
+    rows (suc (suc (suc i))) h = absurd (omega arith)
 
 -- ---- "Nothing is claimed for refused tables": nothing could be
 
