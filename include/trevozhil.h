@@ -88,7 +88,7 @@ extern "C" {
 
 /*
  * So many bytes of stack below the caller serve each function. That is measured, with this library as it is built for
- * x86-64, and not proved: its own functions take up to 12,128, the rest is for the C library's memcpy and memset and for
+ * x86-64, and not proved: its own functions take up to 12,176, the rest is for the C library's memcpy and memset and for
  * a loader that binds them at the first call. Signal handlers come on top.
  */
 #define TREVOZHIL_STACK 16384
@@ -135,6 +135,14 @@ uint32_t trevozhil_write(uint64_t p, uint64_t boards, uint64_t cells, uint64_t m
  * Answers 0 with the period in *a, or a refusal from 1 to 7, or EARLY.
  */
 uint32_t trevozhil_period(const uint8_t *s, size_t s_len, uint64_t *a, uint64_t *b);
+
+/*
+ * The gap of a table, for cycles that an operator starts: the smallest number of ticks such that every sequence of
+ * starts, each next one so many ticks later or more, is right in every run of modes. It is from 1 to the table's length,
+ * and never below the period, which is for equal times from start to start; each longer gap serves too.
+ * Answers 0 with the gap in *a, or a refusal from 1 to 7, or EARLY.
+ */
+uint32_t trevozhil_gap(const uint8_t *s, size_t s_len, uint64_t *a, uint64_t *b);
 
 /*
  * Whether the boards of a table fit at the period q: in no run of modes do two running steps hold one board at once.

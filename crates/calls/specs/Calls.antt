@@ -8,7 +8,7 @@ use lib.IntN.{ℤ}
 use Rattle.rules.specs.Table.{Table}
 use Rattle.rules.specs.Verdicts.{Verdict}
 use Rattle.rules.specs.Judge.{judge, Numbers, judgeNumbers}
-use Rattle.rules.specs.Answers.{Written, IsPlan, IsFold, IsUnfold, IsWrite, IsMargin, IsPeriodOf, YesNo, Fit, Arrive}
+use Rattle.rules.specs.Answers.{Written, IsPlan, IsFold, IsUnfold, IsWrite, IsMargin, IsPeriodOf, IsGapOf, YesNo, Fit, Arrive}
 use Rattle.figures.specs.declared.Figures.{Figures}
 use Rattle.telling.specs.Telling.{toldOf, unwritten, yesOf, Ended, endedOf, endedWith}
 
@@ -43,6 +43,10 @@ UnfoldEnds s out l = (w : Written) × IsUnfold s out w × (l ≡ endedOf w)
 -- trevozhil_period: a is the period
 abbrev pub PeriodTells : List ℕ → Figures → Type 0
 PeriodTells s f = (v : Verdict ℕ) × IsPeriodOf s v × (f ≡ toldOf v)
+
+-- trevozhil_gap: a is the gap
+abbrev pub GapTells : List ℕ → Figures → Type 0
+GapTells s f = (v : Verdict ℕ) × IsGapOf s v × (f ≡ toldOf v)
 
 -- a yes or a no about q: a is 1 where P holds of q and 0 where it does not
 abbrev pub YesNoTells : (Table → ℕ → Type 0) → List ℕ → ℕ → Figures → Type 0

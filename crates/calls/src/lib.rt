@@ -2,7 +2,7 @@
 ghost use Rattle.figures.specs.Figures.{figuresOf};
 ghost use Rattle.handed.specs.Handed.{numbers};
 ghost use Rattle.telling.specs.Telling.{ended};
-ghost use Rattle.calls.specs.Calls.{JudgeTells, NumbersTell, WriteEnds, PlanEnds, FoldEnds, UnfoldEnds, PeriodTells, BoardsTell, ValuesTell, MarginEnds};
+ghost use Rattle.calls.specs.Calls.{JudgeTells, NumbersTell, WriteEnds, PlanEnds, FoldEnds, UnfoldEnds, PeriodTells, GapTells, BoardsTell, ValuesTell, MarginEnds};
 
 // A table's bytes, judged.
 pub fn judge(s: &[u8], a: &mut u64, b: &mut u64) -> u32
@@ -85,6 +85,14 @@ pub fn period(s: &[u8], a: &mut u64, b: &mut u64) -> u32
     ensures { λ r. ⌜ PeriodTells (now (s .entry)) (figuresOf r (now (a .exit)) (now (b .exit))) ⌝ }
 {
     let found = planner::period_of(s);
+    telling::tell(telling::found_told(found), a, b)
+}
+
+// The gap of a table.
+pub fn gap(s: &[u8], a: &mut u64, b: &mut u64) -> u32
+    ensures { λ r. ⌜ GapTells (now (s .entry)) (figuresOf r (now (a .exit)) (now (b .exit))) ⌝ }
+{
+    let found = planner::gap_of(s);
     telling::tell(telling::found_told(found), a, b)
 }
 

@@ -19,7 +19,7 @@ fn may_meet(cols: &[u32; 224], i: usize, j: usize, q: u32) -> bool
 }
 
 // All that may meet operation i.
-fn later_of(cols: &[u32; 224], i: usize, q: u32) -> u32
+pub fn later_of(cols: &[u32; 224], i: usize, q: u32) -> u32
     requires { ⌜ (i < 32) × Short (now cols) × (q ≤ 1000) ⌝ }
     ensures { λ r. ⌜ LaterOf (now (cols .entry)) i q 32 r ⌝ }
 {

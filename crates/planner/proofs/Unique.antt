@@ -4,8 +4,8 @@ use Prim.Native.Nat.{ℕ}
 use mathlib.Core.Path.{_≡_, sym, ap, _∙_}
 use mathlib.Core.List.{List}
 use Rattle.rules.specs.Judge.{Numbers}
-use Rattle.rules.specs.Answers.{IsPlan, IsFold, IsUnfold, IsWrite, IsMargin, IsPeriodOf, BoardsFit, ValuesArrive}
-use Rattle.theory.proofs.Answering.{plan-unique, text-unique, fold-unique, unfold-unique, write-unique, margin-unique, period-of-unique, boards-unique, values-unique}
+use Rattle.rules.specs.Answers.{IsPlan, IsFold, IsUnfold, IsWrite, IsMargin, IsPeriodOf, IsGapOf, BoardsFit, ValuesArrive}
+use Rattle.theory.proofs.Answering.{plan-unique, text-unique, fold-unique, unfold-unique, write-unique, margin-unique, period-of-unique, gap-of-unique, boards-unique, values-unique}
 use Rattle.theory.proofs.Saying.{said-unique}
 use Rattle.fields.specs.declared.Answer.{Answer}
 use Rattle.fields.specs.Verdicts.{answered, leaving}
@@ -57,6 +57,9 @@ values-one x y s q p r = truth-one x y (values-unique s q _ _ p r)
 
 pub period-one : (x y : Found) (s : List ℕ) → IsPeriodOf s (foundOf x) → IsPeriodOf s (foundOf y) → x ≡ y
 period-one x y s p q = found-one x y (period-of-unique s _ _ p q)
+
+pub gap-one : (x y : Found) (s : List ℕ) → IsGapOf s (foundOf x) → IsGapOf s (foundOf y) → x ≡ y
+gap-one x y s p q = found-one x y (gap-of-unique s _ _ p q)
 
 -- ---- the text for a question
 

@@ -1,7 +1,7 @@
 // The planner: the public functions. Each promise is a definition of `rules` about the answer, told in document 01's numbers.
 ghost use mathlib.Core.Path.{_≡_};
 ghost use mathlib.Core.List.{[], _∷_};
-ghost use Rattle.rules.specs.Answers.{IsPlan, IsFold, IsUnfold, IsMargin, IsPeriodOf, BoardsFit, ValuesArrive, IsWrite};
+ghost use Rattle.rules.specs.Answers.{IsPlan, IsFold, IsUnfold, IsMargin, IsPeriodOf, IsGapOf, BoardsFit, ValuesArrive, IsWrite};
 ghost use Rattle.fields.specs.Verdicts.{answered, leaving};
 ghost use Rattle.handed.specs.Handed.{numbers};
 ghost use Rattle.questions.specs.Questions.{truthOf, foundOf};
@@ -98,6 +98,13 @@ pub fn period_of(s: &[u8]) -> Found
     ensures { λ r. ⌜ IsPeriodOf (now (s .entry)) (foundOf r) ⌝ }
 {
     questions::period_of(s)
+}
+
+// The gap: the smallest that serves where the operator starts the cycles.
+pub fn gap_of(s: &[u8]) -> Found
+    ensures { λ r. ⌜ IsGapOf (now (s .entry)) (foundOf r) ⌝ }
+{
+    questions::gap_of(s)
 }
 
 // The bytes of a table that is handed over as numbers; the decider counts where its mark is not 0. On a refusal every byte of the buffer stays.

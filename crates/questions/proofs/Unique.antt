@@ -15,7 +15,7 @@ truth-one (truth.Denied r) (truth.Is b) e = no-refusal r (sym e)
 truth-one (truth.Denied r) (truth.Denied s) e = ap truth.Denied (refusal-one r s e)
 
 pub found-one : (x y : Found) → foundOf x ≡ foundOf y → x ≡ y
-found-one (found.Period p) (found.Period q) e = let same : p ≡ q = cc in ap found.Period same
-found-one (found.Period p) (found.Denied r) e = no-refusal r e
-found-one (found.Denied r) (found.Period p) e = no-refusal r (sym e)
+found-one (found.Ticks p) (found.Ticks q) e = let same : p ≡ q = cc in ap found.Ticks same
+found-one (found.Ticks p) (found.Denied r) e = no-refusal r e
+found-one (found.Denied r) (found.Ticks p) e = no-refusal r (sym e)
 found-one (found.Denied r) (found.Denied s) e = ap found.Denied (refusal-one r s e)

@@ -15,5 +15,5 @@ truthOf (truth.Is b) = accepted b
 truthOf (truth.Denied r) = refusalOf r
 
 abbrev pub foundOf : Found → rules.Verdict ℕ
-foundOf (found.Period q) = accepted q
+foundOf (found.Ticks q) = accepted q
 foundOf (found.Denied r) = refusalOf r

@@ -1,6 +1,6 @@
-// Questions about a table's bytes: whether the boards fit at a period, whether the values arrive, and the period.
+// Questions about a table's bytes: whether the boards fit at a period, whether the values arrive, the period, and the gap.
 ghost use Rattle.rules.specs.Verdicts.{accepted, _then_};
-ghost use Rattle.rules.specs.Answers.{periodAsked, askedTable, IsPeriodOf, BoardsFit, ValuesArrive};
+ghost use Rattle.rules.specs.Answers.{periodAsked, askedTable, IsPeriodOf, IsGapOf, BoardsFit, ValuesArrive};
 ghost use Rattle.table.specs.Tables.{tableOf, Good, JudgedAs};
 ghost use Rattle.questions.specs.Questions.{truthOf, foundOf};
 use fields::Refusal;
@@ -13,8 +13,9 @@ pub enum Truth {
     Denied(Refusal),
 }
 
+// A number of ticks that was asked for, or the refusal.
 pub enum Found {
-    Period(u32),
+    Ticks(u32),
     Denied(Refusal),
 }
 
@@ -70,7 +71,7 @@ pub fn values_arrive(s: &[u8], q: u64) -> Truth
     }
 }
 
-// ---- the period
+// ---- the period and the gap
 
 // The smallest right period.
 pub fn period_of(s: &[u8]) -> Found
@@ -80,6 +81,18 @@ pub fn period_of(s: &[u8]) -> Found
     let verdict = judged.verdict;
     match verdict {
         Verdict::Refused(r) => Found::Denied(r),
-        Verdict::Accepted => Found::Period(period::smallest(judged.table)),
+        Verdict::Accepted => Found::Ticks(period::smallest(judged.table)),
+    }
+}
+
+// The smallest gap that serves.
+pub fn gap_of(s: &[u8]) -> Found
+    ensures { λ r. ⌜ IsGapOf (now (s .entry)) (foundOf r) ⌝ }
+{
+    let judged = reading::read(s);
+    let verdict = judged.verdict;
+    match verdict {
+        Verdict::Refused(r) => Found::Denied(r),
+        Verdict::Accepted => Found::Ticks(gaps::smallest(judged.table)),
     }
 }

@@ -34,7 +34,7 @@ unfolding has
 in-small n s m small h x =
     let far : 2 ^ n ≤ 2 ^ m = pow-mono h in omega (arith, eqb-true (s / 2 ^ m % 2) 1 x, div-eq-of-lt {n = s} {m = 2 ^ m} (omega arith))
 
-in-zero : (m : ℕ) → In m 0 → ⊥
+pub in-zero : (m : ℕ) → In m 0 → ⊥
 in-zero m = in-small 0 0 m (omega arith) (omega arith)
 
 only-zero : (m : ℕ) → In m 1 → m ≡ 0
@@ -107,7 +107,7 @@ k8-not-before x =
     let h = x .last 0 1 (record { cycle = omega arith; isOp = omega arith; inMode = refl }) refl (omega arith) in omega arith
 
 -- ---- distance: K5 is wrong at 1, by cycles 0 and 2 of the run 0, 1, 0
-run5 : IsRun k5 (0 ∷ 1 ∷ 0 ∷ [])
+pub run5 : IsRun k5 (0 ∷ 1 ∷ 0 ∷ [])
 unfolding has
 run5 = record { some = omega arith; begins = refl; goes = go }
   where
@@ -147,7 +147,7 @@ k4-right : Right k4 2
 k4-right = record { boards = k4-boards; values = k4-values 2 }
 
 -- the only mode twice
-twice : (p b c : ℕ) (os : List Op) → IsRun (oneMode p b c os) (0 ∷ 0 ∷ [])
+pub twice : (p b c : ℕ) (os : List Op) → IsRun (oneMode p b c os) (0 ∷ 0 ∷ [])
 unfolding has
 twice p b c os = record { some = omega arith; begins = refl; goes = go }
   where
@@ -155,7 +155,7 @@ twice p b c os = record { some = omega arith; begins = refl; goes = go }
     go zero h = refl
     go (suc k) h = absurd (omega arith)
 
-k4-wrong : BoardsRightAt k4 (spaced 3) → ⊥
+pub k4-wrong : BoardsRightAt k4 (spaced 3) → ⊥
 unfolding BoardsRightAt has
 k4-wrong right =
     right (0 ∷ 0 ∷ []) (twice 4 1 0 _) 1 0 0 1
@@ -194,7 +194,7 @@ k7-source =
     go (suc zero) m x w h = absurd (false≢true w)
     go (suc (suc u)) m x w h = absurd (false≢true w)
 
-k7-wrong : ValuesRightAt k7 (spaced 2) → ⊥
+pub k7-wrong : ValuesRightAt k7 (spaced 2) → ⊥
 unfolding ValuesRightAt has
 k7-wrong right =
     let h = right (0 ∷ 1 ∷ 2 ∷ []) run7 0 0 0 1 2 (record { cycle = omega arith; isOp = omega arith; inMode = refl }) refl k7-source in omega arith
@@ -217,7 +217,7 @@ k9-mode r run (suc k) h =
     only-one (mode r (suc k))
     (subst (λ (a : ℕ). In (mode r (suc k)) (followers k9 a)) (k9-mode r run k (omega arith)) (run .goes k h))
 
-k9-idle : (r : List ℕ) → IsRun k9 r → (k i : ℕ) → Runs k9 r k i → ⊥
+pub k9-idle : (r : List ℕ) → IsRun k9 r → (k i : ℕ) → Runs k9 r k i → ⊥
 unfolding has
 k9-idle r run k zero x = false≢true (subst (λ (a : ℕ). In a 1) (k9-mode r run k (x .cycle)) (x .inMode))
 k9-idle r run k (suc i) x = omega (arith, x .isOp)

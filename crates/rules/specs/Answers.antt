@@ -10,12 +10,13 @@ use lib.IntN.{ℤ}
 use lib.ListN.{length, drop}
 use Rattle.rules.specs.Table.{Table, nops}
 use Rattle.rules.specs.Runs.{BoardsRightAt, ValuesRightAt, spaced, IsPeriod}
+use Rattle.rules.specs.Gaps.{IsGap}
 use Rattle.rules.specs.Rows.{Reply, replyOf, startsOf, margin}
 use Rattle.rules.specs.Verdicts.{Verdict, accepted, refused, ROOM, ASK, Test, refuseIf, _then_, onwards}
 use Rattle.rules.specs.Bytes.{tableBytes, replyBytes, startsBytes}
 use Rattle.rules.specs.Judge.{judge, Numbers, judgeNumbers, judgeReply}
-use Rattle.rules.specs.Text.{textOf, told, yesNoLine, marginLine, startsText}
-use Rattle.rules.specs.Words.{Question, foldAsked, boardsAsked, valuesAsked, marginAsked, unfoldAsked, nothingAsked, questionOf, isAsked, askable}
+use Rattle.rules.specs.Text.{textOf, told, yesNoLine, marginLine, gapLine, startsText}
+use Rattle.rules.specs.Words.{Question, foldAsked, boardsAsked, valuesAsked, marginAsked, unfoldAsked, gapAsked, nothingAsked, questionOf, isAsked, askable}
 
 -- ---- a lent buffer
 
@@ -101,6 +102,10 @@ IsMargin s i j n q v = v ≡ onwards (judge s) (λ T. marginTest T i j n q then 
 abbrev pub IsPeriodOf : List ℕ → Verdict ℕ → Type 0
 IsPeriodOf s v = Answers IsPeriod (judge s) v
 
+-- ---- document 02, No. 6, "Give the smallest gap": the gap of a table's bytes, or the refusal
+abbrev pub IsGapOf : List ℕ → Verdict ℕ → Type 0
+IsGapOf s v = Answers IsGap (judge s) v
+
 -- ---- document 02, No. 10, "Ask about boards or about values": two questions, "each with its own answer for every table and period"
 
 -- the table of a question about q; "q is place 0"
@@ -133,12 +138,13 @@ ValuesArrive s q v = YesNo Arrive s q v
 
 -- the text for a question: an answer, or the line of its refusal
 unfoldable pub IsSaid : Question → List ℕ → List ℕ → Type 0
-unfolding told yesNoLine marginLine startsText askable
+unfolding told yesNoLine marginLine gapLine startsText askable
 IsSaid foldAsked s text = IsText s text
 IsSaid (boardsAsked q) s text = (v : Verdict Bool) × BoardsFit s q v × (text ≡ told yesNoLine v)
 IsSaid (valuesAsked q) s text = (v : Verdict Bool) × ValuesArrive s q v × (text ≡ told yesNoLine v)
 IsSaid (marginAsked i j n q) s text = (v : Verdict ℤ) × IsMargin s i j n q v × (text ≡ told marginLine v)
 IsSaid unfoldAsked s text = text ≡ told startsText (judgeReply s)
+IsSaid gapAsked s text = (v : Verdict ℕ) × IsGapOf s v × (text ≡ told gapLine v)
 IsSaid nothingAsked s text = text ≡ askable
 
 -- what stands on standard output and on standard error

@@ -1,5 +1,5 @@
 -- Document 01, "Bench tables": K1 to K10, those marked to be proved, each with its whole answer, as one list; and a list of tables with a decider,
--- for document 02, No. 4, of tables with a hold, for No. 9, and of tables that are renamed, for No. 12.
+-- for document 02, No. 4, of tables with a hold, for No. 9, of tables that are renamed, for No. 12, and of gaps, for No. 6.
 -- Assumes nothing.
 use Prim.Native.Nat.{ℕ}
 use mathlib.Core.Bool.{Bool, true, false}
@@ -11,7 +11,7 @@ use Rattle.rules.specs.Rows.{Row, Reply, ticks, cycles}
 use Rattle.rules.specs.Renamed.{Names, inOrder, boardsBy, modesBy}
 use Rattle.rules.specs.Verdicts.{Verdict, accepted, refused}
 use Rattle.rules.specs.Bytes.{tableBytes}
-use Rattle.rules.specs.Answers.{ReplyTo, IsMargin, BoardsFit, ValuesArrive}
+use Rattle.rules.specs.Answers.{ReplyTo, IsMargin, BoardsFit, ValuesArrive, IsGapOf}
 
 -- ---- how they are written down: start, duration, boards, reads, writes, modes; and with a hold behind the duration
 abbrev pub opn : ℕ → ℕ → ℕ → ℕ → ℕ → ℕ → Op
@@ -114,21 +114,23 @@ row s f = record { start = ticks s; fst = cycles f }
 abbrev pub reply : ℕ → List Row → Verdict Reply
 reply q rs = accepted (record { period = ticks q; rows = rs })
 
--- a case: a table's bytes, what is asked of them (the reply, a margin, whether the boards fit at q, whether the values arrive), and the whole
--- answer or refusal
+-- a case: a table's bytes, what is asked of them (the reply, a margin, whether the boards fit at q, whether the values arrive, the gap), and
+-- the whole answer or refusal
 pub data Case : Type 0 where
   replies : List ℕ → Verdict Reply → Case
   margins : List ℕ → (i j n q : ℕ) → Verdict ℤ → Case
   fits : List ℕ → ℕ → Verdict Bool → Case
   arrives : List ℕ → ℕ → Verdict Bool → Case
+  gaps : List ℕ → Verdict ℕ → Case
 
 -- what a case claims: that the answer beside the bytes is the answer by the rules. A reply is that of the smallest period that is right in
--- every run, folded; boards fit and values arrive in every run; a refusal is the first that is due.
+-- every run, folded; boards fit and values arrive in every run; a gap is the smallest that serves in every run, for all starts that are so far apart; a refusal is the first that is due.
 unfoldable pub Holds : Case → Type 0
 Holds (replies s v) = ReplyTo s v
 Holds (margins s i j n q v) = IsMargin s i j n q v
 Holds (fits s q v) = BoardsFit s q v
 Holds (arrives s q v) = ValuesArrive s q v
+Holds (gaps s v) = IsGapOf s v
 
 -- each case of a list
 unfoldable pub All : {A : Type 0} → (A → Type 0) → List A → Type 0
@@ -394,4 +396,72 @@ renamedBench =
     ∷ table k10-behind (refused 6 1 2)
     ∷ table k10-before (refused 6 0 1)
     ∷ table no-such-board (refused 4 22 29)
+    ∷ []
+
+-- ---- document 02, No. 6: cycles started by the operator
+
+-- a board held at the start of a cycle and again later, p 6: [0,1) and [3,4) on board 0. Periods 2 and 4 are right and 3 is not: the gap is 4
+abbrev pub twice-held : Table
+twice-held = oneMode 6 1 0 (opn 0 1 1 0 0 1 ∷ opn 3 1 1 0 0 1 ∷ [])
+
+-- K5 with [0,3) and [0,1): two gaps have to take 3 ticks
+abbrev pub k5-odd : Table
+k5-odd =
+    record {
+      len = 4;
+      boards = 2;
+      cells = 0;
+      modes = 2;
+      first = 1;
+      follow = 2 ∷ 1 ∷ [];
+      ops = opn 0 3 1 0 0 1 ∷ opn 0 1 2 0 0 2 ∷ [];
+      decider = nobody;
+    }
+
+-- K5's modes; [0,1) and [3,4) on board 0 in mode 0. With equal gaps two cycles of mode 0 start an even number of ticks apart and never meet, so
+-- that 1 to 4 are right; with a gap of 1 and one of 2 they meet
+abbrev pub every-second : Table
+every-second =
+    record {
+      len = 4;
+      boards = 1;
+      cells = 0;
+      modes = 2;
+      first = 1;
+      follow = 2 ∷ 1 ∷ [];
+      ops = opn 0 1 1 0 0 1 ∷ opn 3 1 1 0 0 1 ∷ [];
+      decider = nobody;
+    }
+
+abbrev pub gap : Table → ℕ → Case
+gap T g = gaps (tableBytes T) (accepted g)
+
+-- K1 to K9; gaps longer than the period, also where every period is right; a quotient that is rounded up; a hold; values that are good before the board is free; refusals
+unfoldable pub gapBench : List Case
+unfolding k1-bytes tableBytes
+gapBench =
+    gaps k1-bytes (accepted 3)
+    ∷ gap k2 2
+    ∷ gap k3 4
+    ∷ gap k4 4
+    ∷ gap k5 2
+    ∷ gap k6 4
+    ∷ gap k7 3
+    ∷ gap k8 3
+    ∷ gap k9 1
+    ∷ gap twice-held 4
+    ∷ table twice-held (reply 2 (row 0 0 ∷ row 1 1 ∷ []))
+    ∷ gap every-second 2
+    ∷ table every-second (reply 1 (row 0 0 ∷ row 0 3 ∷ []))
+    ∷ fits (tableBytes every-second) 2 (accepted true)
+    ∷ fits (tableBytes every-second) 3 (accepted true)
+    ∷ gap k5-odd 2
+    ∷ margins (tableBytes k5-odd) 0 0 2 2 (accepted (pos 1))
+    ∷ margins (tableBytes k5-odd) 0 0 2 1 (accepted (negsuc 0))
+    ∷ gaps (k1-20 3 1) (accepted 4)
+    ∷ gap good-next-cycle 4
+    ∷ gaps (tableBytes k10) (refused 6 0 1)
+    ∷ gaps (tableBytes hasty) (refused 10 0 1)
+    ∷ gaps (k1-20 3 2) (refused 4 22 29)
+    ∷ gaps [] (refused 2 0 0)
     ∷ []

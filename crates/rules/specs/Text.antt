@@ -108,6 +108,15 @@ unfoldable pub marginLine : ℤ → List ℕ
 unfolding signed
 marginLine m = marginWord ++ signed m ++ newline
 
+-- "gap "
+abbrev pub gapWord : List ℕ
+gapWord = 103 ∷ 97 ∷ 112 ∷ 32 ∷ []
+
+-- `gap g`
+unfoldable pub gapLine : ℕ → List ℕ
+unfolding decimal
+gapLine g = gapWord ++ decimal g ++ newline
+
 -- `op i start t`
 unfoldable pub startLine : ℕ → Ticks → List ℕ
 unfolding decimal

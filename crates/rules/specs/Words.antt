@@ -41,6 +41,7 @@ pub data Word : Type 0 where
   valuesName : Word
   marginName : Word
   unfoldName : Word
+  gapName : Word
   number : ℕ → Word
   other : Word
 
@@ -60,6 +61,10 @@ marginBytes = 109 ∷ 97 ∷ 114 ∷ 103 ∷ 105 ∷ 110 ∷ []
 abbrev pub unfoldBytes : List ℕ
 unfoldBytes = 117 ∷ 110 ∷ 102 ∷ 111 ∷ 108 ∷ 100 ∷ []
 
+-- "gap"
+abbrev pub gapBytes : List ℕ
+gapBytes = 103 ∷ 97 ∷ 112 ∷ []
+
 unfoldable pub wordOf : List ℕ → Word
 unfolding sameBytes isNumber valueOf
 wordOf w =
@@ -67,7 +72,8 @@ wordOf w =
     (cond (sameBytes w valuesBytes) valuesName
     (cond (sameBytes w marginBytes) marginName
     (cond (sameBytes w unfoldBytes) unfoldName
-    (cond (isNumber w) (number (valueOf w)) other))))
+    (cond (sameBytes w gapBytes) gapName
+    (cond (isNumber w) (number (valueOf w)) other)))))
 
 -- ---- all of them
 
@@ -77,6 +83,7 @@ pub data Question : Type 0 where
   valuesAsked : (q : ℕ) → Question
   marginAsked : (i j n q : ℕ) → Question
   unfoldAsked : Question
+  gapAsked : Question
   nothingAsked : Question
 
 -- the next word is a number, and what comes behind it is f's
@@ -86,6 +93,7 @@ withNumber f (boardsName ∷ ws) = nothingAsked
 withNumber f (valuesName ∷ ws) = nothingAsked
 withNumber f (marginName ∷ ws) = nothingAsked
 withNumber f (unfoldName ∷ ws) = nothingAsked
+withNumber f (gapName ∷ ws) = nothingAsked
 withNumber f (number n ∷ ws) = f n ws
 withNumber f (other ∷ ws) = nothingAsked
 
@@ -94,7 +102,7 @@ unfoldable pub withNone : Question → List Word → Question
 withNone q [] = q
 withNone q (w ∷ ws) = nothingAsked
 
--- `boards Q`, `values Q`, `margin I J N Q`, `unfold`; "Words that are no question, too few or too many, or that are no decimal number" ask nothing
+-- `boards Q`, `values Q`, `margin I J N Q`, `unfold`, `gap`; "Words that are no question, too few or too many, or that are no decimal number" ask nothing
 unfoldable pub asks : List Word → Question
 unfolding withNumber withNone
 asks [] = foldAsked
@@ -102,6 +110,7 @@ asks (boardsName ∷ ws) = withNumber (λ q. withNone (boardsAsked q)) ws
 asks (valuesName ∷ ws) = withNumber (λ q. withNone (valuesAsked q)) ws
 asks (marginName ∷ ws) = withNumber (λ i. withNumber (λ j. withNumber (λ n. withNumber (λ q. withNone (marginAsked i j n q))))) ws
 asks (unfoldName ∷ ws) = withNone unfoldAsked ws
+asks (gapName ∷ ws) = withNone gapAsked ws
 asks (number n ∷ ws) = nothingAsked
 asks (other ∷ ws) = nothingAsked
 
@@ -116,6 +125,7 @@ isAsked (boardsAsked q) = true
 isAsked (valuesAsked q) = true
 isAsked (marginAsked i j n q) = true
 isAsked unfoldAsked = true
+isAsked gapAsked = true
 isAsked nothingAsked = false
 
 -- ---- "a short list of what can be asked"
@@ -145,6 +155,11 @@ abbrev unfoldHelp : List ℕ
 unfoldHelp =
     102 ∷ 111 ∷ 108 ∷ 100 ∷ 32 ∷ 117 ∷ 110 ∷ 102 ∷ 111 ∷ 108 ∷ 100 ∷ 58 ∷ 32 ∷ 116 ∷ 104 ∷ 101 ∷ 32 ∷ 115 ∷ 116 ∷ 97 ∷ 114 ∷ 116 ∷ 115 ∷ 32 ∷ 111 ∷ 102 ∷ 32 ∷ 116 ∷ 104 ∷ 101 ∷ 32 ∷ 114 ∷ 101 ∷ 112 ∷ 108 ∷ 121 ∷ 32 ∷ 111 ∷ 110 ∷ 32 ∷ 115 ∷ 116 ∷ 97 ∷ 110 ∷ 100 ∷ 97 ∷ 114 ∷ 100 ∷ 32 ∷ 105 ∷ 110 ∷ 112 ∷ 117 ∷ 116 ∷ 10 ∷ []
 
+-- "fold gap: the smallest gap from one start to the next, for cycles that the operator starts"
+abbrev gapHelp : List ℕ
+gapHelp =
+    102 ∷ 111 ∷ 108 ∷ 100 ∷ 32 ∷ 103 ∷ 97 ∷ 112 ∷ 58 ∷ 32 ∷ 116 ∷ 104 ∷ 101 ∷ 32 ∷ 115 ∷ 109 ∷ 97 ∷ 108 ∷ 108 ∷ 101 ∷ 115 ∷ 116 ∷ 32 ∷ 103 ∷ 97 ∷ 112 ∷ 32 ∷ 102 ∷ 114 ∷ 111 ∷ 109 ∷ 32 ∷ 111 ∷ 110 ∷ 101 ∷ 32 ∷ 115 ∷ 116 ∷ 97 ∷ 114 ∷ 116 ∷ 32 ∷ 116 ∷ 111 ∷ 32 ∷ 116 ∷ 104 ∷ 101 ∷ 32 ∷ 110 ∷ 101 ∷ 120 ∷ 116 ∷ 44 ∷ 32 ∷ 102 ∷ 111 ∷ 114 ∷ 32 ∷ 99 ∷ 121 ∷ 99 ∷ 108 ∷ 101 ∷ 115 ∷ 32 ∷ 116 ∷ 104 ∷ 97 ∷ 116 ∷ 32 ∷ 116 ∷ 104 ∷ 101 ∷ 32 ∷ 111 ∷ 112 ∷ 101 ∷ 114 ∷ 97 ∷ 116 ∷ 111 ∷ 114 ∷ 32 ∷ 115 ∷ 116 ∷ 97 ∷ 114 ∷ 116 ∷ 115 ∷ 10 ∷ []
+
 -- "I, J, N, Q are decimal numbers"
 abbrev numbersHelp : List ℕ
 numbersHelp =
@@ -152,4 +167,4 @@ numbersHelp =
 
 unfoldable pub askable : List ℕ
 askable =
-    foldHelp ++ boardsHelp ++ valuesHelp ++ marginHelp ++ unfoldHelp ++ numbersHelp
+    foldHelp ++ boardsHelp ++ valuesHelp ++ marginHelp ++ unfoldHelp ++ gapHelp ++ numbersHelp

@@ -10,12 +10,12 @@ use native.Mathlib.Decide.{decLt}
 use native.Mathlib.Omega.{arith}
 use lib.IntN.{ℤ}
 use lib.ListN.{length, take}
-use Rattle.rules.specs.Words.{foldAsked, boardsAsked, valuesAsked, marginAsked, unfoldAsked, nothingAsked, questionOf, isAsked, askable}
+use Rattle.rules.specs.Words.{foldAsked, boardsAsked, valuesAsked, marginAsked, unfoldAsked, gapAsked, nothingAsked, questionOf, isAsked, askable}
 use Rattle.rules.specs.Words as rules
 use Rattle.rules.specs.Verdicts.{Verdict}
 use Rattle.rules.specs.Judge.{judgeReply}
-use Rattle.rules.specs.Text.{told, yesNoLine, marginLine, startsText}
-use Rattle.rules.specs.Answers.{Fit, BoardsFit, Arrive, ValuesArrive, IsMargin, IsSaid, printed, IsPrinted}
+use Rattle.rules.specs.Text.{told, yesNoLine, marginLine, gapLine, startsText}
+use Rattle.rules.specs.Answers.{Fit, BoardsFit, Arrive, ValuesArrive, IsMargin, IsGapOf, IsSaid, printed, IsPrinted}
 use Rattle.theory.proofs.Beyond.{Alike, yes-no-alike, margin-asked-alike}
 use Rattle.text.specs.declared.Text.{Text}
 use Rattle.text.specs.Texts.{textIn}
@@ -44,6 +44,7 @@ said-capped (valuesAsked q) s text (v, x, e) = (v, yes-no-alike s Arrive (capped
 said-capped (marginAsked i j n q) s text (v, x, e) =
     (v, margin-asked-alike s (capped i) i (capped j) j (capped n) n (capped q) q v (alike i) (alike j) (alike n) (alike q) x, e)
 said-capped unfoldAsked s text x = x
+said-capped gapAsked s text x = x
 said-capped nothingAsked s text x = x
 
 -- ---- the text for each question
@@ -68,6 +69,10 @@ module _ {q : Question} (s : List ℕ) {t : Text} where
   unfolding IsSaid
   said-unfold e f = subst⁻¹ (λ (r : Question). SaidFor r s t) e (told startsText (judgeReply s), refl, f)
 
+  pub said-gap : (v : Verdict ℕ) → q ≡ question.Gap → IsGapOf s v → t ≡ textIn (told gapLine v) → SaidFor q s t
+  unfolding IsSaid
+  said-gap v e x f = subst⁻¹ (λ (r : Question). SaidFor r s t) e (told gapLine v, (v, x, refl), f)
+
   pub said-nothing : q ≡ question.Nothing → t ≡ textIn askable → SaidFor q s t
   unfolding IsSaid
   said-nothing e f = subst⁻¹ (λ (r : Question). SaidFor r s t) e (askable, refl, f)
@@ -84,6 +89,7 @@ capped-printed (boardsAsked q) text = refl
 capped-printed (valuesAsked q) text = refl
 capped-printed (marginAsked i j n q) text = refl
 capped-printed unfoldAsked text = refl
+capped-printed gapAsked text = refl
 capped-printed nothingAsked text = refl
 
 -- from the words to both streams: what is printed for the question that the code read is what is printed for the words, whatever words stand

@@ -13,6 +13,7 @@ pub fn say(q: Question, s: &[u8]) -> Text
         Question::Values(p) => says::truth_text(questions::values_arrive(s, p)),
         Question::Margin(i, j, n, p) => says::measured_text(margins::margin(s, i, j, n, p)),
         Question::Unfold => start_lines::starts_text(s),
+        Question::Gap => says::gap_text(questions::gap_of(s)),
         Question::Nothing => says::askable_text(),
     }
 }

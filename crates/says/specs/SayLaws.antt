@@ -1,4 +1,4 @@
--- A margin's sign and its digits, and how long its line is.
+-- A margin's sign and its digits, and how long its line and that of a gap are.
 -- Assumes nothing.
 use Prim.Native.Nat.{ℕ, _+_, _^_, _<_, _≤_}
 use mathlib.Core.Path.{_≡_, refl, ap, _∙_}
@@ -13,7 +13,7 @@ use lib.Signed.{ltZ, nonNeg, natAbs-le}
 use mir.Facts.{toZ-ofZ, sfits-widen}
 use mir.Syntax.{w32, w64}
 use mir.Val.{SFits, toZ, ofZ}
-use Rattle.rules.specs.Text.{decimal, newline, marginWord, signed, marginLine}
+use Rattle.rules.specs.Text.{decimal, newline, marginWord, signed, marginLine, gapWord, gapLine}
 use Rattle.theory.proofs.Text.{decimal-length}
 use Rattle.lines.specs.Lines.{Puts}
 use Rattle.lines.specs.LineLaws.{puts-then}
@@ -71,3 +71,20 @@ margin-length m = omega (arith, simp length-append at (ap length (margin-line m)
 pub margin-put : (m : ℤ) (out : List ℕ) {mid end : List ℕ} {k n : ℕ} → Puts out mid 0 k (marginWord ++ signed m) → Puts mid end k n newline
     → Puts out end 0 n (marginLine m)
 margin-put m out a b = rw (margin-line m) (puts-then out 0 (marginWord ++ signed m) newline a b)
+
+-- ---- the line of a gap
+
+gap-row : (g : ℕ) → gapLine g ≡ gapWord ++ decimal g ++ newline
+unfolding gapLine
+gap-row g = refl
+
+-- 10 digits are enough
+pub gap-short : (g : ℕ) → g < 2 ^ 32 → length (decimal g) ≤ 10
+gap-short g h = decimal-length 9 g (omega arith)
+
+pub gap-length : (g : ℕ) → length (gapLine g) ≡ 5 + length (decimal g)
+gap-length g = omega (arith, simp length-append at (ap length (gap-row g)))
+
+pub gap-put : (g : ℕ) (out : List ℕ) {mid end : List ℕ} {k n : ℕ} → Puts out mid 0 k (gapWord ++ decimal g) → Puts mid end k n newline
+    → Puts out end 0 n (gapLine g)
+gap-put g out a b = rw (gap-row g) (puts-then out 0 (gapWord ++ decimal g) newline a b)

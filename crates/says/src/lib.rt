@@ -1,16 +1,17 @@
-// What is said for a question other than the fold's, by value: yes or no, a margin, the list of what can be asked.
+// What is said for a question other than the fold's, by value: yes or no, a margin, a gap, the list of what can be asked.
 ghost use mathlib.Core.Path.{_≡_};
 ghost use mathlib.Core.List.{_++_};
 ghost use Prim.Native.Nat.{_+_, _≤_};
 ghost use lib.IntN.{natAbs};
 ghost use lib.ListN.{length};
-ghost use Rattle.rules.specs.Text.{told, yesNoLine, marginWord, signed, marginLine, longestText};
+ghost use Rattle.rules.specs.Text.{told, yesNoLine, marginWord, signed, marginLine, gapLine, longestText};
 ghost use Rattle.rules.specs.Words.{askable};
-ghost use Rattle.questions.specs.Questions.{truthOf};
+ghost use Rattle.questions.specs.Questions.{truthOf, foundOf};
 ghost use Rattle.margins.specs.Margins.{measuredOf};
 ghost use Rattle.lines.specs.Lines.{Puts};
 ghost use Rattle.text.specs.Texts.{textIn};
 use margins::Measured;
+use questions::Found;
 use questions::Truth;
 use text::LONGEST;
 use text::Text;
@@ -88,6 +89,26 @@ pub fn measured_text(x: Measured) -> Text
     }
 }
 
+// The line of a gap.
+fn gap_line(g: u32) -> Text
+    ensures { λ r. ⌜ r ≡ textIn (gapLine g) ⌝ }
+{
+    let mut bytes = [0u8; LONGEST];
+    let end = lines::put_part(&mut bytes, 0, b"gap ", g as u64);
+    let len = lines::put_bytes(&mut bytes, end, b"\n");
+    Text { bytes, len }
+}
+
+// The answer to the question for the gap.
+pub fn gap_text(x: Found) -> Text
+    ensures { λ r. ⌜ r ≡ textIn (told gapLine (foundOf x)) ⌝ }
+{
+    match x {
+        Found::Ticks(g) => gap_line(g),
+        Found::Denied(r) => text::refusal_text(r),
+    }
+}
+
 // The list of what can be asked.
 pub fn askable_text() -> Text
     ensures { λ r. ⌜ r ≡ textIn askable ⌝ }
@@ -98,6 +119,7 @@ pub fn askable_text() -> Text
           fold values Q: do the values arrive at period Q\n\
           fold margin I J N Q: ticks left from the end of step I to the start of step J, N cycles later, at period Q\n\
           fold unfold: the starts of the reply on standard input\n\
+          fold gap: the smallest gap from one start to the next, for cycles that the operator starts\n\
           I, J, N, Q are decimal numbers\n",
     )
 }

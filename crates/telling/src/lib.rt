@@ -33,12 +33,12 @@ pub fn answer_told(x: Answer) -> Figures
     }
 }
 
-// The period.
+// The period, or the gap.
 pub fn found_told(x: Found) -> Figures
     ensures { λ f. ⌜ f ≡ toldOf (foundOf x) ⌝ }
 {
     match x {
-        Found::Period(q) => figures::numbered(0, q as usize, 0),
+        Found::Ticks(q) => figures::numbered(0, q as usize, 0),
         Found::Denied(r) => figures::figures_of(r),
     }
 }

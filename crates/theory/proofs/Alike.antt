@@ -9,6 +9,7 @@ use native.Mathlib.Omega.{arith}
 use Rattle.rules.specs.Sets.{In, Share}
 use Rattle.rules.specs.Table.{Table, nops, op, followers, Turn, Clash, Contest, Race, Always, DecidedBy, Accepted}
 use Rattle.rules.specs.Runs.{BoardsRightAt, ValuesRightAt, RightAt, IsPeriod, spaced}
+use Rattle.rules.specs.Gaps.{IsGap}
 use Rattle.theory.specs.Carry.{Carry}
 use Rattle.theory.specs.Renamed.{OpAlike, Alike}
 use Rattle.theory.proofs.Sets.{in-none, in-small}
@@ -185,4 +186,13 @@ module _ (S T : Table) (s t f g : ℕ → ℕ) (okS : Accepted S) (okT : Accepte
         high = omega (arith, x .high, c .len);
         right = alike-right (spaced q) .0 (x .right);
         least = λ p low less right. x .least p low less (alike-right (spaced p) .1 right);
+      }
+
+  pub alike-gap : (g : ℕ) → IsGap S g → IsGap T g
+  alike-gap g x =
+      record {
+        low = x .low;
+        high = omega (arith, x .high, c .len);
+        serves = λ d a. alike-right d .0 (x .serves d a);
+        least = λ h low less y. x .least h low less (λ d a. alike-right d .1 (y d a));
       }

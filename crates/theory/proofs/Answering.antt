@@ -4,6 +4,7 @@ use Prim.Native.Nat.{ℕ, _+_, _*_, _<_, _≤_}
 use mathlib.Core.Path.{_≡_, refl, sym, ap, subst⁻¹, _∙_}
 use mathlib.Core.Bool.{Bool, true, false}
 use mathlib.Core.List.{List, _++_}
+use mathlib.Core.Logic.{_↔_}
 use native.Mathlib.Omega.{arith}
 use native.Mathlib.Decide.{decLt}
 use lib.IntN.{ℤ}
@@ -11,21 +12,23 @@ use lib.ListN.{length, take, drop, length-append, length-drop}
 use borrow.Author.Tests.{lt-ltb, le-ltb}
 use Rattle.rules.specs.Table.{Table, nops, Accepted}
 use Rattle.rules.specs.Runs.{IsPeriod}
+use Rattle.rules.specs.Gaps.{IsGap}
 use Rattle.rules.specs.Rows.{Reply, replyOf}
 use Rattle.rules.specs.Verdicts.{Verdict, accepted, refused, ROOM, onwards}
 use Rattle.rules.specs.Bytes.{replyBytes, farthest}
 use Rattle.rules.specs.Judge.{judge, Numbers}
 use Rattle.rules.specs.Text.{replyText, textOf}
-use Rattle.rules.specs.Answers.{Written, put, written, Answers, Planned, ReplyTo, bytesOf, IsPlan, IsText, IsFold, IsUnfold, IsWrite, IsMargin, IsPeriodOf, askedTable, YesFor, YesNo, Fit, BoardsFit, Arrive, ValuesArrive}
-use Rattle.theory.specs.Tests.{periodOf, planOf, boardsAnswer, valuesAnswer}
+use Rattle.rules.specs.Answers.{Written, put, written, Answers, Planned, ReplyTo, bytesOf, IsPlan, IsText, IsFold, IsUnfold, IsWrite, IsMargin, IsPeriodOf, IsGapOf, askedTable, YesFor, YesNo, Fit, BoardsFit, Arrive, ValuesArrive}
+use Rattle.theory.specs.Tests.{periodOf, planOf, boardsAnswer, valuesAnswer, gapOf, gapAnswer}
 use Rattle.theory.proofs.Says.{Says}
 use Rattle.theory.proofs.Verdicts.{never-refused, onwards-accepts}
 use Rattle.theory.proofs.Period.{period-unique}
 use Rattle.theory.proofs.Exists.{says-fit, says-arrive, period-found}
+use Rattle.theory.proofs.Gaps.{gap-unique, gap-not-below, gap-found}
 use Rattle.theory.proofs.Judging.{judge-accepted}
 use Rattle.theory.proofs.Lengths.{no-farther}
 use Rattle.theory.proofs.Bytes.{reply-size}
-use Rattle.theory.proofs.Asking.{question}
+use Rattle.theory.proofs.Asking.{question, answered-first, answered-refused}
 
 -- ---- answers that are facts about what was accepted
 
@@ -162,6 +165,35 @@ period-of-unique s = answers-unique IsPeriod period-unique (judge s)
 pub period-of-exists : (s : List ℕ) → (v : Verdict ℕ) × IsPeriodOf s v
 period-of-exists s = (_, answers-exist IsPeriod periodOf (judge s) (λ T e. period-found T (judge-accepted s T e)))
 
+-- ---- the gap of a table's bytes
+pub gap-of-unique : (s : List ℕ) (v w : Verdict ℕ) → IsGapOf s v → IsGapOf s w → v ≡ w
+gap-of-unique s = answers-unique IsGap gap-unique (judge s)
+
+-- the computed gap is the gap
+pub gap-of-found : (s : List ℕ) → IsGapOf s (gapAnswer s)
+unfolding gapAnswer
+gap-of-found s = answers-exist IsGap gapOf (judge s) (λ T e. gap-found T (judge-accepted s T e))
+
+pub gap-of-exists : (s : List ℕ) → (v : Verdict ℕ) × IsGapOf s v
+gap-of-exists s = (gapAnswer s, gap-of-found s)
+
+-- it is not below the period that is answered
+pub gap-of-not-below : (s : List ℕ) (q g : ℕ) → IsPeriodOf s (accepted q) → IsGapOf s (accepted g) → q ≤ g
+gap-of-not-below s q g x y =
+    let (T, read, period) = answered-first IsPeriod (judge s) (accepted q) x refl in
+    let (U, read′, gap) = answered-first IsGap (judge s) (accepted g) y refl in
+    let same : U ≡ T = cc (read, read′) in
+    gap-not-below T q g period (rw same at gap)
+
+refused-too : (P Q : Table → ℕ → Type 0) (u : Verdict Table) (n a b : ℕ) → Answers P u (refused n a b) → Answers Q u (refused n a b)
+unfolding Answers
+refused-too P Q u n a b x =
+    subst⁻¹ (λ (v : Verdict Table). Answers Q v (refused n a b)) (answered-refused P u (refused n a b) x refl) refl
+
+-- and is refused where the period is, with the same figures
+pub gap-of-refused : (s : List ℕ) (n a b : ℕ) → IsPeriodOf s (refused n a b) ↔ IsGapOf s (refused n a b)
+gap-of-refused s n a b = (refused-too IsPeriod IsGap (judge s) n a b, refused-too IsGap IsPeriod (judge s) n a b)
+
 -- ---- unfold, write, margin: computed from the input, so one answer and always one
 pub unfold-unique : (s out : List ℕ) (w x : Written) → IsUnfold s out w → IsUnfold s out x → w ≡ x
 unfold-unique s out w x e f = e ∙ sym f
@@ -257,6 +289,9 @@ module _ (s t : List ℕ) (near : take farthest s ≡ take farthest t) where
 
   pub period-of-near : (v : Verdict ℕ) → IsPeriodOf s v → IsPeriodOf t v
   period-of-near v x = rw (no-farther s t near) at x
+
+  pub gap-of-near : (v : Verdict ℕ) → IsGapOf s v → IsGapOf t v
+  gap-of-near v x = rw (no-farther s t near) at x
 
   pub margin-near : (i j n q : ℕ) (v : Verdict ℤ) → IsMargin s i j n q v → IsMargin t i j n q v
   margin-near i j n q v e = rw (no-farther s t near) at e

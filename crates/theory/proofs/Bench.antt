@@ -1,5 +1,6 @@
 -- The starred bench tables: one list, one claim, one computation.
 -- Assumes nothing.
+use Prim.Native.Nat.{ℕ}
 use mathlib.Core.Path.{_≡_, refl, subst}
 use mathlib.Core.Bool.{Bool}
 use mathlib.Core.List.{List, [], _∷_, map}
@@ -7,30 +8,33 @@ use lib.IntN.{ℤ}
 use Rattle.rules.specs.Rows.{Reply, margin}
 use Rattle.rules.specs.Verdicts.{Verdict, accepted, _then_, onwards}
 use Rattle.rules.specs.Judge.{judge}
-use Rattle.rules.specs.Answers.{ReplyTo, BoardsFit, ValuesArrive, marginTest}
-use Rattle.rules.specs.Bench.{Case, replies, margins, fits, arrives, Holds, All, bench, deciderBench, holdBench, renamedBench}
-use Rattle.theory.specs.Tests.{planOf, boardsAnswer, valuesAnswer}
-use Rattle.theory.proofs.Answering.{reply-found, boards-found, values-found}
+use Rattle.rules.specs.Answers.{ReplyTo, BoardsFit, ValuesArrive, IsGapOf, marginTest}
+use Rattle.rules.specs.Bench.{Case, replies, margins, fits, arrives, gaps, Holds, All, bench, deciderBench, holdBench, renamedBench, gapBench}
+use Rattle.theory.specs.Tests.{planOf, boardsAnswer, valuesAnswer, gapAnswer}
+use Rattle.theory.proofs.Answering.{reply-found, boards-found, values-found, gap-of-found}
 
 -- an answer of each kind
 data Said : Type 0 where
   replied : Verdict Reply → Said
   measured : Verdict ℤ → Said
   decided : Verdict Bool → Said
+  spread : Verdict ℕ → Said
 
 -- what is computed for a case, and what stands beside it
 computed : Case → Said
-unfolding planOf onwards judge marginTest _then_ margin boardsAnswer valuesAnswer
+unfolding planOf onwards judge marginTest _then_ margin boardsAnswer valuesAnswer gapAnswer
 computed (replies s v) = replied (planOf s)
 computed (margins s i j n q v) = measured (onwards (judge s) (λ T. marginTest T i j n q then accepted (margin T i j n q)))
 computed (fits s q v) = decided (boardsAnswer s q)
 computed (arrives s q v) = decided (valuesAnswer s q)
+computed (gaps s v) = spread (gapAnswer s)
 
 expected : Case → Said
 expected (replies s v) = replied v
 expected (margins s i j n q v) = measured v
 expected (fits s q v) = decided v
 expected (arrives s q v) = decided v
+expected (gaps s v) = spread v
 
 -- a case whose answer is computed holds
 computed-holds : (c : Case) → computed c ≡ expected c → Holds c
@@ -39,6 +43,7 @@ computed-holds (replies s v) e = let same : planOf s ≡ v = cc in subst (λ (x 
 computed-holds (margins s i j n q v) e = cc
 computed-holds (fits s q v) e = let same : boardsAnswer s q ≡ v = cc in subst (λ (x : Verdict Bool). BoardsFit s q x) same (boards-found s q)
 computed-holds (arrives s q v) e = let same : valuesAnswer s q ≡ v = cc in subst (λ (x : Verdict Bool). ValuesArrive s q x) same (values-found s q)
+computed-holds (gaps s v) e = let same : gapAnswer s ≡ v = cc in subst (λ (x : Verdict ℕ). IsGapOf s x) same (gap-of-found s)
 
 all-computed : (cs : List Case) → map computed cs ≡ map expected cs → All Holds cs
 unfolding All
@@ -79,3 +84,11 @@ renamed-computes = refl
 
 pub renamed-bench-holds : All Holds renamedBench
 renamed-bench-holds = all-computed renamedBench renamed-computes
+
+-- document 02, No. 6: gaps
+gap-computes : map computed gapBench ≡ map expected gapBench
+unfolding computed expected gapBench
+gap-computes = refl
+
+pub gap-bench-holds : All Holds gapBench
+gap-bench-holds = all-computed gapBench gap-computes

@@ -167,7 +167,7 @@ module _ (T S : Table) (okT : Accepted T) (okS : Accepted S) (le : Better T S) w
   pub better-values : (d : ℕ → ℕ) → ValuesRightAt T d → ValuesRightAt S d
   better-values = carry-values S T (λ i. i) (λ i. i) (λ a. a) (better-carry T S le) okS okT
 
-  better-right-at : (d : ℕ → ℕ) → RightAt T d → RightAt S d
+  pub better-right-at : (d : ℕ → ℕ) → RightAt T d → RightAt S d
   better-right-at = carry-right S T (λ i. i) (λ i. i) (λ a. a) (better-carry T S le) okS okT
 
   -- Demand 3: "each period that is right for the first, up to the table's length, is right for the second"

@@ -26,11 +26,11 @@ use Rattle.theory.proofs.Values.{values-longer}
 use Rattle.theory.proofs.Period.{length-right}
 
 -- ---- the smallest number from 1 up at which a statement holds
-record Least (P : ℕ → Type 0) (top q : ℕ) : Type 0 where
-  low : 1 ≤ q
-  high : q ≤ top
-  holds : P q
-  none : (shorter : ℕ) → 1 ≤ shorter → shorter < q → P shorter → ⊥
+pub record Least (P : ℕ → Type 0) (top q : ℕ) : Type 0 where
+  pub low : 1 ≤ q
+  pub high : q ≤ top
+  pub holds : P q
+  pub none : (shorter : ℕ) → 1 ≤ shorter → shorter < q → P shorter → ⊥
 
 module _ (P : ℕ → Type 0) (f : ℕ → Bool) (says : (q : ℕ) → 1 ≤ q → Says (f q) (P q)) where
   -- one number more is passed
@@ -54,7 +54,7 @@ module _ (P : ℕ → Type 0) (f : ℕ → Bool) (says : (q : ℕ) → 1 ≤ q �
       go (holds y) k = rw y (record { low = h; high = omega arith; holds = says q h .0 y; none = none })
       go (fails y) k = rw y (k (λ z. clash-bool (says q h .1 z) y))
 
-  least-of : (top : ℕ) → 1 ≤ top → P top → Least P top (firstFrom f (top - 1) 1)
+  pub least-of : (top : ℕ) → 1 ≤ top → P top → Least P top (firstFrom f (top - 1) 1)
   least-of top h x = least-from (top - 1) 1 top (omega arith) (omega arith) x (λ p a b. absurd (omega arith))
 
 -- ---- adding to a set: the number grows, or there was nothing new. So 2 ^ n less the set falls where what follows is added

@@ -1,5 +1,5 @@
--- Demand 3, said of the public answers: a second table of better knowledge keeps every yes, whether of the boards or of the values, and its
--- reply has no longer period.
+-- Demand 3, said of the public answers: a second table of better knowledge keeps every yes, whether of the boards or of the values, its reply
+-- has no longer period, and its gap is no longer.
 -- Assumes nothing.
 use Prim.Native.Nat.{ℕ, _<_, _≤_}
 use mathlib.Core.Path.{_≡_, refl, sym, ap, _∙_}
@@ -10,20 +10,22 @@ use native.Mathlib.Omega.{arith}
 use lib.ListN.{length}
 use Rattle.rules.specs.Table.{Table}
 use Rattle.rules.specs.Runs.{spaced}
+use Rattle.rules.specs.Gaps.{IsGap}
 use Rattle.rules.specs.Better.{Better}
 use Rattle.rules.specs.Rows.{replyOf}
 use Rattle.rules.specs.Verdicts.{accepted}
 use Rattle.rules.specs.Bytes.{num16, replyBytes}
 use Rattle.rules.specs.Judge.{judge}
-use Rattle.rules.specs.Answers.{Written, put, IsPlan, YesNo, Fit, BoardsFit, Arrive, ValuesArrive}
+use Rattle.rules.specs.Answers.{Written, put, IsPlan, IsGapOf, YesNo, Fit, BoardsFit, Arrive, ValuesArrive}
 use Rattle.theory.specs.Tests.{periodOf}
 use Rattle.theory.proofs.Verdicts.{never-refused}
 use Rattle.theory.proofs.Bytes.{two-bytes}
 use Rattle.theory.proofs.Exists.{period-found}
 use Rattle.theory.proofs.Judging.{judge-accepted}
 use Rattle.theory.proofs.Answering.{put-room, put-short, plan-put}
-use Rattle.theory.proofs.Asking.{yes-first, yes-said}
+use Rattle.theory.proofs.Asking.{answered-first, yes-first, yes-said}
 use Rattle.theory.proofs.Carry.{better-boards, better-values, better-period}
+use Rattle.theory.proofs.Gaps.{better-gap}
 
 -- the period stands in the reply's first field
 put-period : (T : Table) (q : ℕ) (out : List ℕ) (n : ℕ) → q < 65536 → put (replyBytes (replyOf T q)) out .answer ≡ accepted n
@@ -52,6 +54,15 @@ module _ (s t : List ℕ) (T S : Table) (first : judge s ≡ accepted T) (second
       let okS = judge-accepted t S second in
       let shorter = better-period T S okT okS le (periodOf T) (periodOf S) (period-found T okT) (period-found S okS) in
       omega (arith, plan-period s out w T n first p done, plan-period t out′ x S m second r done′)
+
+  -- nor is the second gap
+  pub gap-better : (g h : ℕ) → IsGapOf s (accepted g) → IsGapOf t (accepted h) → h ≤ g
+  gap-better g h x y =
+      let (U, read, is) = answered-first IsGap (judge s) (accepted g) x refl in
+      let (W, read′, is′) = answered-first IsGap (judge t) (accepted h) y refl in
+      let one : U ≡ T = cc (read, first) in
+      let two : W ≡ S = cc (read′, second) in
+      better-gap T S (judge-accepted s T first) (judge-accepted t S second) le g h (rw one at is) (rw two at is′)
 
   -- what is answered with yes for the first is answered with yes for the second, where P is kept
   yes-better : (P : Table → ℕ → Type 0) (q : ℕ) → (P T q → P S q) → YesNo P s q (accepted true) → YesNo P t q (accepted true)

@@ -1,4 +1,5 @@
 pub mod Order
+pub mod Apart
 pub mod Says
 pub mod Sets
 pub mod Period
@@ -11,6 +12,7 @@ pub mod Tests
 pub mod Exists
 pub mod Verdicts
 pub mod Carry
+pub mod Gaps
 pub mod OneToOne
 pub mod Alike
 pub mod Ranges

@@ -1,13 +1,13 @@
 -- The period is unique, and the length of an accepted table is a right period.
 -- Assumes nothing.
-use Prim.Native.Nat.{ℕ, _*_, _<_}
+use Prim.Native.Nat.{ℕ, _+_, _<_}
 use mathlib.Core.Path.{_≡_, sym, ap, subst}
 use mathlib.Core.List.{List}
 use mathlib.Core.Logic.{inl, inr}
 use native.Mathlib.Omega.{arith}
 use Rattle.rules.specs.Sets.{Share, Overlap}
 use Rattle.rules.specs.Table.{Op, Table, nops, op, heldTo, Clash, Race, Contest, Accepted}
-use Rattle.rules.specs.Runs.{mode, Runs, BoardsRightAt, ValuesRightAt, Right, spaced, IsPeriod}
+use Rattle.rules.specs.Runs.{mode, IsRun, Runs, BoardsRightAt, ValuesRightAt, Right, spaced, IsPeriod}
 use Rattle.theory.proofs.Order.{Cmp, less, same, more, cmp, later}
 
 -- a table has one period
@@ -41,6 +41,15 @@ race-sym {o} {u} c =
       lap = (c .lap .1, c .lap .0);
     }
 
+-- operation j, in cycle l, wants a board while operation i, in the earlier cycle k, holds it; s gives the dates at which cycles start
+pub record Meet (T : Table) (s : ℕ → ℕ) (r : List ℕ) (i k j l : ℕ) : Type 0 where
+  pub run : IsRun T r
+  pub first : Runs T r k i
+  pub second : Runs T r l j
+  pub earlier : k < l
+  pub board : Share (op T i .boards) (op T j .boards)
+  pub lap : Overlap (op T i .start + s k) (heldTo (op T i) + s k) (op T j .start + s l) (heldTo (op T j) + s l)
+
 module _ (T : Table) (ok : Accepted T) where
   pub never-clash : (i j : ℕ) → i < nops T → j < nops T → (i ≡ j → ⊥) → Clash (op T i) (op T j) → ⊥
   never-clash i j hi hj ne c = go (cmp i j)
@@ -64,17 +73,23 @@ module _ (T : Table) (ok : Accepted T) where
   apart r i j k x y ne b l =
       never-clash i j (x .isOp) (y .isOp) ne (record { mode = (mode r k, x .inMode, y .inMode); board = b; lap = l })
 
-  -- the length is right
-  plain-boards : BoardsRightAt T (spaced (T .len))
+  -- boards are right where that never happens: in one cycle there is no clash
+  pub boards-by : (s : ℕ → ℕ) → ((r : List ℕ) (i k j l : ℕ) → Meet T s r i k j l → ⊥) → BoardsRightAt T s
   unfolding BoardsRightAt
-  plain-boards r run i k j l x y ne b lap = go (cmp k l)
+  boards-by s never r run i k j l x y ne b lap = go (cmp k l)
     where
       go : Cmp k l → ⊥
-      go (less h) = omega (arith, later (T .len) h, ok .each i (x .isOp) .fits)
+      go (less h) = never r i k j l (record { run = run; first = x; second = y; earlier = h; board = b; lap = lap })
       go (same e) =
           apart r i j k x (subst (λ (m : ℕ). Runs T r m j) (sym e) y) (λ d. ne (d, e)) b
-          (omega (arith, ap (λ (m : ℕ). m * T .len) e))
-      go (more h) = omega (arith, later (T .len) h, ok .each j (y .isOp) .fits)
+          (omega (arith, ap s e))
+      go (more h) =
+          never r j l i k
+          (record { run = run; first = y; second = x; earlier = h; board = (b .0, b .2, b .1); lap = (lap .1, lap .0) })
+
+  -- the length is right
+  plain-boards : BoardsRightAt T (spaced (T .len))
+  plain-boards = boards-by (spaced (T .len)) (λ r i k j l m. omega (arith, m .lap, later (T .len) (m .earlier), ok .each i (m .first .isOp) .fits))
 
   plain-values : ValuesRightAt T (spaced (T .len))
   unfolding ValuesRightAt

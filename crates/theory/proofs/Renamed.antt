@@ -12,6 +12,7 @@ use lib.Seq.{ext-getD}
 use Rattle.rules.specs.Sets.{In}
 use Rattle.rules.specs.Table.{Op, Decider, nobody, decides, Table, nops, noOp, op, followers, endOf, Decided, SetOf, OpOk, Accepted}
 use Rattle.rules.specs.Runs.{BoardsRightAt, ValuesRightAt, RightAt, IsPeriod}
+use Rattle.rules.specs.Gaps.{IsGap}
 use Rattle.rules.specs.Rows.{Reply, ticks, foldAt, replyOf, margin}
 use Rattle.rules.specs.Renamed.{Names, OneToOne, Below, InUse, following, Renamed, inOrder, boardsBy, modesBy, noRow, Moved}
 use Rattle.theory.specs.Renamed.{found, OpAlike, Alike}
@@ -19,7 +20,7 @@ use Rattle.theory.proofs.Sets.{some-in, in-small}
 use Rattle.theory.proofs.Period.{never-clash, never-race}
 use Rattle.theory.proofs.OneToOne.{found-name, name-found, in-renamed, set-of-renamed, share-renamed}
 use Rattle.theory.proofs.Replies.{folded}
-use Rattle.theory.proofs.Alike.{turned, clash-alike, race-alike, decided-alike, alike-boards, alike-values, alike-right, alike-period}
+use Rattle.theory.proofs.Alike.{turned, clash-alike, race-alike, decided-alike, alike-boards, alike-values, alike-right, alike-period, alike-gap}
 
 -- a row of a table's reply, whatever stands past the last
 row-of : (os : List Op) (q i : ℕ) → i < length os → getD (map (folded q) os) i noRow ≡ folded q (getD os i noOp)
@@ -184,6 +185,13 @@ module _ (by : Names) (S T : Table) (ok : Accepted S) (re : Renamed by S T) wher
     alike-period T S placeBack (by .place) modeBack (by .mode) renamed-accepted ok back-alike q,
   )
 
+  -- document 02, No. 6: and the gap
+  pub renamed-gap : (g : ℕ) → IsGap S g ↔ IsGap T g
+  renamed-gap g = (
+    alike-gap S T (by .place) placeBack (by .mode) modeBack ok renamed-accepted renamed-alike g,
+    alike-gap T S placeBack (by .place) modeBack (by .mode) renamed-accepted ok back-alike g,
+  )
+
   -- "and moves each folded row with its operation", at every q
   pub renamed-rows : (q : ℕ) → Moved (by .place) (replyOf S q) (replyOf T q)
   unfolding replyOf
@@ -217,25 +225,31 @@ same-rows R U x =
     let rows = ext-getD noRow (U .rows) (R .rows) (x .count) (λ i h. x .each i (omega (arith, h, x .count))) in
     λ k. record { period = x .period k; rows = rows k }
 
--- accepted, and the same periods
-abbrev pub Kept : Table → Table → Type 0
-Kept S T = Accepted T × ((q : ℕ) → IsPeriod S q ↔ IsPeriod T q)
+-- accepted, the same period and the same gap
+pub record Kept (S T : Table) : Type 0 where
+  pub accepted : Accepted T
+  pub period : (q : ℕ) → IsPeriod S q ↔ IsPeriod T q
+  pub gap : (g : ℕ) → IsGap S g ↔ IsGap T g
+
+renamed-keeps : (by : Names) (S T : Table) → Accepted S → Renamed by S T → Kept S T
+renamed-keeps by S T ok re =
+    record { accepted = renamed-accepted by S T ok re; period = renamed-period by S T ok re; gap = renamed-gap by S T ok re }
 
 module _ (f : ℕ → ℕ) (S T : Table) (ok : Accepted S) where
   -- "listing its operations in another order": "moves each folded row with its operation"
   pub order-kept : Renamed (inOrder f) S T → Kept S T × ((q : ℕ) → Moved f (replyOf S q) (replyOf T q))
-  order-kept re = ((renamed-accepted (inOrder f) S T ok re, renamed-period (inOrder f) S T ok re), renamed-rows (inOrder f) S T ok re)
+  order-kept re = (renamed-keeps (inOrder f) S T ok re, renamed-rows (inOrder f) S T ok re)
 
   -- "renaming its boards one to one": the same rows
   pub boards-kept : Renamed (boardsBy f) S T → Kept S T × ((q : ℕ) → replyOf T q ≡ replyOf S q)
   boards-kept re = (
-    (renamed-accepted (boardsBy f) S T ok re, renamed-period (boardsBy f) S T ok re),
+    renamed-keeps (boardsBy f) S T ok re,
     λ q. same-rows (replyOf S q) (replyOf T q) (renamed-rows (boardsBy f) S T ok re q),
   )
 
   -- "Mode numbers renamed one to one .. also leave the period and rows."
   pub modes-kept : Renamed (modesBy f) S T → Kept S T × ((q : ℕ) → replyOf T q ≡ replyOf S q)
   modes-kept re = (
-    (renamed-accepted (modesBy f) S T ok re, renamed-period (modesBy f) S T ok re),
+    renamed-keeps (modesBy f) S T ok re,
     λ q. same-rows (replyOf S q) (replyOf T q) (renamed-rows (modesBy f) S T ok re q),
   )

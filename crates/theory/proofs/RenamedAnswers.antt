@@ -14,13 +14,14 @@ use lib.IntN.{ℤ}
 use lib.ListN.{length, drop}
 use Rattle.rules.specs.Table.{Table, nops}
 use Rattle.rules.specs.Runs.{IsPeriod, spaced}
+use Rattle.rules.specs.Gaps.{IsGap}
 use Rattle.rules.specs.Rows.{Reply, replyOf, margin}
 use Rattle.rules.specs.Renamed.{Names, Renamed, boardsBy, modesBy, Moved}
 use Rattle.rules.specs.Verdicts.{Verdict, accepted, Test, _then_}
 use Rattle.rules.specs.Bytes.{tableBytes, replyBytes}
 use Rattle.rules.specs.Judge.{judge}
 use Rattle.rules.specs.Text.{replyText, textOf}
-use Rattle.rules.specs.Answers.{Written, put, Answers, Planned, ReplyTo, IsPlan, IsText, asked, periodAsked, marginTest, IsMargin, IsPeriodOf, askedTable, YesFor, YesNo, Fit, BoardsFit, Arrive, ValuesArrive}
+use Rattle.rules.specs.Answers.{Written, put, Answers, Planned, ReplyTo, IsPlan, IsText, asked, periodAsked, marginTest, IsMargin, IsPeriodOf, IsGapOf, askedTable, YesFor, YesNo, Fit, BoardsFit, Arrive, ValuesArrive}
 use Rattle.theory.specs.Tests.{periodOf}
 use Rattle.theory.proofs.Verdicts.{never-refused, then-accepts, then-refuses, onwards-accepts}
 use Rattle.theory.proofs.Says.{Known, known, holds, fails}
@@ -30,7 +31,7 @@ use Rattle.theory.proofs.Judging.{judge-accepted}
 use Rattle.theory.proofs.Numbers.{write-read}
 use Rattle.theory.proofs.Asking.{asked-no, asked-yes, margin-row, answered-first, answered-back, accepted-answers}
 use Rattle.theory.proofs.Answering.{plan-put, plan-replies, plan-room}
-use Rattle.theory.proofs.Renamed.{Kept, boards-kept, modes-kept, renamed-accepted, renamed-boards, renamed-values, renamed-period, renamed-rows, renamed-margin}
+use Rattle.theory.proofs.Renamed.{Kept, boards-kept, modes-kept, renamed-accepted, renamed-boards, renamed-values, renamed-period, renamed-gap, renamed-rows, renamed-margin}
 
 -- the tests of a margin of two operations of the table: what is left of them
 margin-rest : (T : Table) (i j n q : ℕ) → i < nops T → j < nops T → marginTest T i j n q ≡ (asked (leb 1 n && leb n 1000) 2 then periodAsked T q 3)
@@ -48,11 +49,19 @@ module _ (by : Names) (s : List ℕ) (S T : Table) (read : judge s ≡ accepted 
   pub read-renamed : judge t ≡ accepted T
   read-renamed = write-read T (renamed-accepted by S T (judge-accepted s S read) re)
 
+  -- a number that the table keeps is the same answer
+  number-renamed : (P : Table → ℕ → Type 0) → ((n : ℕ) → P S n ↔ P T n) → (v : Verdict ℕ) → Answers P (judge s) v → Answers P (judge t) v
+  number-renamed P keeps v x =
+      let (n, is, e) = answered-back P (judge s) v x read in
+      subst (λ (u : Verdict ℕ). Answers P (judge t) u) (sym e) (accepted-answers P read-renamed (keeps n .0 is))
+
   -- the same period
   pub period-renamed : (v : Verdict ℕ) → IsPeriodOf s v → IsPeriodOf t v
-  period-renamed v x =
-      let (q, is, e) = answered-back IsPeriod (judge s) v x read in
-      subst (λ (u : Verdict ℕ). IsPeriodOf t u) (sym e) (accepted-answers IsPeriod read-renamed (renamed-period by S T (judge-accepted s S read) re q .0 is))
+  period-renamed = number-renamed IsPeriod (renamed-period by S T (judge-accepted s S read) re)
+
+  -- the same gap
+  pub gap-renamed : (v : Verdict ℕ) → IsGapOf s v → IsGapOf t v
+  gap-renamed = number-renamed IsGap (renamed-gap by S T (judge-accepted s S read) re)
 
   -- a reply, with the rows moved
   pub reply-renamed : (R : Reply) → ReplyTo s (accepted R) → (U : Reply) × ReplyTo t (accepted U) × Moved (by .place) R U
@@ -154,10 +163,11 @@ module _ (by : Names) (s : List ℕ) (S T : Table) (read : judge s ≡ accepted 
 -- boards or modes renamed, and the operations where they were: plan answers the same, byte for byte, ROOM included
 module _ (s out : List ℕ) (S T : Table) (read : judge s ≡ accepted S) (w x : Written) (plan : IsPlan s out w) (plan′ : IsPlan (tableBytes T) out x) where
   same-plan : Kept S T × ((q : ℕ) → replyOf T q ≡ replyOf S q) → x ≡ w
-  same-plan ((ok, periods), rows) =
+  same-plan (kept, rows) =
+      let ok = kept .accepted in
       let is = period-found S (judge-accepted s S read) in
       let q = periodOf S in
-      let same : periodOf T ≡ q = period-unique T (periodOf T) q (period-found T ok) (periods q .0 is) in
+      let same : periodOf T ≡ q = period-unique T (periodOf T) q (period-found T ok) (kept .period q .0 is) in
       plan-put (tableBytes T) out x T (write-read T ok) plan′
       ∙ ap (λ (R : Reply). put (replyBytes R) out) (ap (replyOf T) same ∙ rows q)
       ∙ sym (plan-put s out w S read plan)

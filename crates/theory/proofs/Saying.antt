@@ -5,11 +5,11 @@ use mathlib.Core.Path.{_≡_, refl, sym, ap, _∙_}
 use mathlib.Core.List.{List}
 use lib.ListN.{take}
 use Rattle.rules.specs.Bytes.{farthest}
-use Rattle.rules.specs.Text.{told, yesNoLine, marginLine, startsText}
-use Rattle.rules.specs.Words.{Question, foldAsked, boardsAsked, valuesAsked, marginAsked, unfoldAsked, nothingAsked, questionOf, askable}
+use Rattle.rules.specs.Text.{told, yesNoLine, marginLine, gapLine, startsText}
+use Rattle.rules.specs.Words.{Question, foldAsked, boardsAsked, valuesAsked, marginAsked, unfoldAsked, gapAsked, nothingAsked, questionOf, askable}
 use Rattle.rules.specs.Answers.{IsSaid, Printed, printed, IsPrinted}
 use Rattle.theory.proofs.Lengths.{reply-no-farther}
-use Rattle.theory.proofs.Answering.{text-unique, text-exists, text-near, boards-unique, boards-exists, boards-near, values-unique, values-exists, values-near, margin-near}
+use Rattle.theory.proofs.Answering.{text-unique, text-exists, text-near, boards-unique, boards-exists, boards-near, values-unique, values-exists, values-near, margin-near, gap-of-unique, gap-of-exists, gap-of-near}
 
 pub said-unique : (q : Question) (s b c : List ℕ) → IsSaid q s b → IsSaid q s c → b ≡ c
 unfolding IsSaid
@@ -18,6 +18,7 @@ said-unique (boardsAsked q) s b c (v, x, e) (w, y, f) = e ∙ ap (told yesNoLine
 said-unique (valuesAsked q) s b c (v, x, e) (w, y, f) = e ∙ ap (told yesNoLine) (values-unique s q v w x y) ∙ sym f
 said-unique (marginAsked i j n q) s b c (v, x, e) (w, y, f) = e ∙ ap (told marginLine) (x ∙ sym y) ∙ sym f
 said-unique unfoldAsked s b c x y = x ∙ sym y
+said-unique gapAsked s b c (v, x, e) (w, y, f) = e ∙ ap (told gapLine) (gap-of-unique s v w x y) ∙ sym f
 said-unique nothingAsked s b c x y = x ∙ sym y
 
 pub said-exists : (q : Question) (s : List ℕ) → (b : List ℕ) × IsSaid q s b
@@ -27,6 +28,7 @@ said-exists (boardsAsked q) s = let (v, x) = boards-exists s q in (told yesNoLin
 said-exists (valuesAsked q) s = let (v, x) = values-exists s q in (told yesNoLine v, (v, x, refl))
 said-exists (marginAsked i j n q) s = (_, (_, refl, refl))
 said-exists unfoldAsked s = (_, refl)
+said-exists gapAsked s = let (v, x) = gap-of-exists s in (told gapLine v, (v, x, refl))
 said-exists nothingAsked s = (askable, refl)
 
 -- "no answer depends on bytes past 889", whatever is asked
@@ -37,6 +39,7 @@ said-near (boardsAsked q) s t b near (v, x, e) = (v, boards-near s t near q v x,
 said-near (valuesAsked q) s t b near (v, x, e) = (v, values-near s t near q v x, e)
 said-near (marginAsked i j n q) s t b near (v, x, e) = (v, margin-near s t near i j n q v x, e)
 said-near unfoldAsked s t b near x = x ∙ ap (told startsText) (reply-no-farther s t near)
+said-near gapAsked s t b near (v, x, e) = (v, gap-of-near s t near v x, e)
 said-near nothingAsked s t b near x = x
 
 -- ---- both streams

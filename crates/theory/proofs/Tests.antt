@@ -1,18 +1,20 @@
 -- The computed tests say what they are named for, for runs of every length.
 -- Assumes nothing.
 use Prim.Native.Nat.{ℕ, zero, suc, _+_, _*_, _<_, _≤_}
-use mathlib.Core.Bool.{Bool, _&&_}
+use mathlib.Core.Path.{_≡_}
+use mathlib.Core.Bool.{Bool, true, _&&_}
 use mathlib.Core.Logic.{_↔_}
 use native.Mathlib.Nat.{mul-le-mul-left}
 use native.Mathlib.Decide.{decLt, decLe}
 use native.Mathlib.Omega.{arith}
 use lib.Dec.{leb, ltb}
-use Rattle.rules.specs.Sets.{has, In, Share, Overlap, overlaps}
+use lib.Bits.{bitAnd}
+use Rattle.rules.specs.Sets.{has, In, Share, shares, Overlap, overlaps}
 use Rattle.rules.specs.Table.{Op, Table, nops, op, endOf, heldTo, Accepted}
 use Rattle.rules.specs.Runs.{BoardsRightAt, ValuesRightAt, Right, spaced}
 use Rattle.theory.specs.Walks.{IsReach}
-use Rattle.theory.specs.Near.{BoardsNear, LastWriter, Quiet, QuietTo, ValuesNear}
-use Rattle.theory.specs.Tests.{without, modesOf, boardBad, writers, lastIn, freshIn, valueBad, boardsFine, valuesFine}
+use Rattle.theory.specs.Near.{BoardPair, BoardsNear, BoardsClear, LastWriter, Quiet, QuietTo, ValuesNear}
+use Rattle.theory.specs.Tests.{without, via, modesOf, boardBad, writers, lastIn, freshIn, valueBad, boardsFine, valuesFine, lateBad, LetGo, boardsFree}
 use Rattle.theory.proofs.Says.{Says, says-itself, says-by, says-leb, says-ltb, says-and, says-not, says-all}
 use Rattle.theory.proofs.Sets.{in-none, in-without, in-small, says-shares}
 use Rattle.theory.proofs.Modes.{Way, says-way, in-modes, walk-map}
@@ -29,6 +31,16 @@ below-length n q p h d = omega (arith, mul-le-mul-left (suc n) h)
 
 module _ (T : Table) (R : ℕ) (hR : IsReach T R) (q : ℕ) (low : 1 ≤ q) where
   -- ---- boards
+
+  -- two operations that run n + 1 cycles apart: a walk from a mode of the one to a mode of the other
+  pair-way : (n i j a b : ℕ) → BoardPair T (suc n) i j a b → Way T 0 (suc n) (op T i .modes) (op T j .modes)
+  pair-way n i j a b p = (a, b, p .reach, p .runs, walk-map (λ m _ e. in-none m e) (p .walk), p .ends)
+
+  way-pair : (n i j : ℕ) → i < nops T → j < nops T → Share (op T i .boards) (op T j .boards)
+      → (w : Way T 0 (suc n) (op T i .modes) (op T j .modes)) → BoardPair T (suc n) i j (w .0) (w .1)
+  way-pair n i j hi hj board (a, b, r, p, w, e) =
+      record { first = hi; second = hj; board = board; reach = r; runs = p; walk = walk-map (λ m _. tt) w; ends = e }
+
   abbrev BoardBad : ℕ → ℕ → ℕ → Type 0
   BoardBad n i j =
       (suc n * q < T .len)
@@ -53,17 +65,48 @@ module _ (T : Table) (R : ℕ) (hR : IsReach T R) (q : ℕ) (low : 1 ≤ q) wher
   unfolding BoardsNear
   fine-near x zero h near i j a b p lap = omega arith
   fine-near x (suc n) h near i j a b p lap =
-      x n (below-length n q (T .len) low near) i (p .first) j (p .second)
-      (near, (p .board, (lap, (a, b, p .reach, p .runs, walk-map (λ m _ e. in-none m e) (p .walk), p .ends))))
+      x n (below-length n q (T .len) low near) i (p .first) j (p .second) (near, (p .board, (lap, pair-way n i j a b p)))
 
   near-fine : BoardsNear T q → NoBoardBad
   unfolding BoardsNear
-  near-fine x n h i hi j hj (near, (board, (lap, (a, b, r, p, w, e)))) =
-      x (suc n) (omega arith) near i j a b
-      (record { first = hi; second = hj; board = board; reach = r; runs = p; walk = walk-map (λ m _. tt) w; ends = e }) lap
+  near-fine x n h i hi j hj (near, (board, (lap, way))) =
+      x (suc n) (omega arith) near i j (way .0) (way .1) (way-pair n i j hi hj board way) lap
 
   says-boards : Says (boardsFine T R q) (BoardsNear T q)
   says-boards = says-by says-no-boardBad fine-near near-fine
+
+  -- ---- boards of cycles that the operator starts
+  pub clear-let-go : BoardsClear T q ↔ LetGo T R q
+  unfolding BoardsClear
+  clear-let-go = (
+    λ x i hi n j hj b e.
+        let way = says-way T R hR 0 n (op T i .modes) (op T j .modes) .0 e in
+        x (suc n) (omega arith) i j (way .0) (way .1) (way-pair n i j hi hj b way),
+    λ x n. back x n,
+  )
+    where
+      back : LetGo T R q → (n : ℕ) → 1 ≤ n → (i j a b : ℕ) → BoardPair T n i j a b → heldTo (op T i) ≤ op T j .start + n * q
+      back x zero h i j a b p = absurd (omega arith)
+      back x (suc n) h i j a b p =
+          x i (p .first) n j (p .second) (p .board) (says-way T R hR 0 n (op T i .modes) (op T j .modes) .1 (pair-way n i j a b p))
+
+  abbrev LateBad : ℕ → ℕ → ℕ → Type 0
+  LateBad n i j =
+      (suc n * q < T .len)
+      × (Share (op T i .boards) (op T j .boards)
+      × ((op T j .start + suc n * q < heldTo (op T i))
+      × (shares (via (T .follow) 0 n (bitAnd R (op T i .modes))) (op T j .modes) ≡ true)))
+
+  says-lateBad : (n i j : ℕ) → Says (lateBad T R q n i j) (LateBad n i j)
+  unfolding lateBad
+  says-lateBad n i j = says-and _ _ (says-ltb _ _) (says-and _ _ (says-shares _ _) (says-and _ _ (says-ltb _ _) says-itself))
+
+  abbrev NoLateBad : Type 0
+  NoLateBad = (n : ℕ) → n < T .len → (i : ℕ) → i < nops T → (j : ℕ) → j < nops T → LateBad n i j → ⊥
+
+  says-no-lateBad : Says (boardsFree T R q) NoLateBad
+  unfolding boardsFree
+  says-no-lateBad = says-all _ _ (λ n _. says-all _ _ (λ i _. says-all _ _ (λ j _. says-not _ (says-lateBad n i j))))
 
   -- ---- values
   quiet-iff : (c m : ℕ) → Quiet T c m ↔ (In m (writers T c) → ⊥)
@@ -205,6 +248,23 @@ module _ (T : Table) (R : ℕ) (hR : IsReach T R) (q : ℕ) (low : 1 ≤ q) wher
 
     says-values : Says (valuesFine T R q) (ValuesNear T q)
     says-values = says-by says-no-valueBad fine-near-values near-fine-values
+
+    free-let-go : NoLateBad → LetGo T R q
+    free-let-go x i hi n j hj b e = go (decLt (op T j .start + suc n * q) (heldTo (op T i)))
+      where
+        go : Dec (op T j .start + suc n * q < heldTo (op T i)) → heldTo (op T i) ≤ op T j .start + suc n * q
+        go (no l) = omega arith
+        go (yes l) =
+            let near : suc n * q < T .len = omega (arith, ok .each i hi .fits) in
+            absurd (x n (below-length n q (T .len) low near) i hi j hj (near, (b, (l, e))))
+
+    let-go-free : LetGo T R q → NoLateBad
+    let-go-free x n h i hi j hj (near, (b, (l, e))) = omega (arith, x i hi n j hj b e)
+
+    -- whether the boards are let go in time at every distance
+    pub says-boards-clear : Says (boardsFree T R q) (BoardsClear T q)
+    says-boards-clear =
+        says-by says-no-lateBad (λ x. clear-let-go .1 (free-let-go x)) (λ x. let-go-free (clear-let-go .0 x))
 
     -- the tests, at any set that holds just the reachable modes, say whether boards and values are right at q
     pub says-boards-right : Says (boardsFine T R q) (BoardsRightAt T (spaced q))

@@ -1,18 +1,19 @@
 -- A period is right for the values, in runs of every length, exactly when each value is in time at the distances n with n * q below the
--- length; and so is every longer one.
+-- length; and so is every longer one, and all starts of cycles that are so far apart.
 -- Assumes nothing.
 use Prim.Native.Nat.{ℕ, suc, _+_, _*_, _<_, _≤_}
 use mathlib.Core.Path.{_≡_, ap, subst, _∙_}
 use mathlib.Core.List.{List}
 use mathlib.Core.Logic.{_↔_}
-use native.Mathlib.Nat.{mul-le-mul-left}
 use native.Mathlib.Omega.{arith}
 use native.Mathlib.Decide.{decLt}
 use Rattle.rules.specs.Sets.{In}
 use Rattle.rules.specs.Table.{Table, nops, op, endOf, Accepted}
-use Rattle.rules.specs.Runs.{mode, IsRun, Runs, Source, ValuesRightAt, spaced}
-use Rattle.theory.specs.Near.{LastWriter, Quiet, QuietTo, ValuePair, ValuesNear}
+use Rattle.rules.specs.Runs.{mode, IsRun, Runs, plainStart, Source, ValuesRightAt, spaced}
+use Rattle.rules.specs.Gaps.{Apart}
+use Rattle.theory.specs.Near.{LastWriter, Quiet, QuietTo, ValuePair, ValuesNear, ValuesClear}
 use Rattle.theory.proofs.Order.{Cmp, cmp, distance, later}
+use Rattle.theory.proofs.Apart.{spaced-apart, apart-turns}
 use Rattle.theory.proofs.Walks.{Realised, realise, run-reach, run-walk}
 
 module _ (T : Table) (ok : Accepted T) where
@@ -103,26 +104,42 @@ module _ (T : Table) (ok : Accepted T) where
           step : k * T .len + T .len ≤ (k + n) * T .len
           step = later (T .len) (omega arith)
 
-  module _ (q : ℕ) where
-    values-right : ValuesNear T q → ValuesRightAt T (spaced q)
-    unfolding ValuesNear ValuesRightAt
-    values-right near r run c i k j l y v s = go (cmp k l)
-      where
-        by : (h : k < l) (n : ℕ) → l ≡ suc (k + n) → Dec (suc n * q < T .len) → endOf (op T i) + k * q ≤ op T j .start + l * q
-        by h n e (yes d) =
-            omega (
-              arith,
-              ap (λ (m : ℕ). m * q) e,
-              near (suc n) (omega arith) d c i j (mode r k) (mode r l) (source-pair r run c i k j l y v s h n e),
-            )
-        by h n e (no d) = omega (arith, ap (λ (m : ℕ). m * q) e, ok .each i (s .runs .isOp) .fits)
+  -- values are right where no reader takes one of an earlier cycle too early: in its own cycle it comes as in the plain run
+  values-by : (s : ℕ → ℕ)
+      → ((r : List ℕ) → IsRun T r → (c i k j l : ℕ) → Runs T r l j → In c (op T j .reads) → Source T r c (plainStart T j l) i k → k < l
+      → endOf (op T i) + s k ≤ op T j .start + s l)
+      → ValuesRightAt T s
+  unfolding ValuesRightAt
+  values-by s before r run c i k j l y v x = go (cmp k l)
+    where
+      go : Cmp k l → endOf (op T i) + s k ≤ op T j .start + s l
+      go (Cmp.less h) = before r run c i k j l y v x h
+      go (Cmp.same e) = omega (arith, x .before, ap s e, ap (λ (m : ℕ). m * T .len) e)
+      go (Cmp.more h) =
+          absurd
+          (omega (arith, x .before, later (T .len) h, ok .each j (y .isOp) .fits, ok .each i (x .runs .isOp) .lasts))
 
-        go : Cmp k l → endOf (op T i) + k * q ≤ op T j .start + l * q
-        go (Cmp.less h) = let (n, e) = distance h in by h n e (decLt (suc n * q) (T .len))
-        go (Cmp.same e) = omega (arith, s .before, ap (λ (m : ℕ). m * q) e, ap (λ (m : ℕ). m * T .len) e)
-        go (Cmp.more h) =
-            absurd
-            (omega (arith, s .before, later (T .len) h, ok .each j (y .isOp) .fits, ok .each i (s .runs .isOp) .lasts))
+  module _ (q : ℕ) where
+    -- further cycles ask nothing more
+    near-clear : ValuesNear T q → ValuesClear T q
+    unfolding ValuesNear ValuesClear
+    near-clear near n low c i j a b p = go (decLt (n * q) (T .len))
+      where
+        go : Dec (n * q < T .len) → endOf (op T i) ≤ op T j .start + n * q
+        go (yes h) = near n low h c i j a b p
+        go (no h) = omega (arith, ok .each i (p .writer .isOp) .fits)
+
+    -- values that are in time at every distance are right for all starts that are q or more apart
+    pub clear-values : ValuesClear T q → (s : ℕ → ℕ) → Apart q s → ValuesRightAt T s
+    unfolding ValuesClear
+    clear-values clear s x =
+        values-by s (λ r run c i k j l y v src h.
+        let (n, e) = distance h in
+        omega (
+          arith,
+          apart-turns x n k l e,
+          clear (suc n) (omega arith) c i j (mode r k) (mode r l) (source-pair r run c i k j l y v src h n e),
+        ))
 
     values-near : ValuesRightAt T (spaced q) → ValuesNear T q
     unfolding ValuesNear ValuesRightAt
@@ -137,21 +154,11 @@ module _ (T : Table) (ok : Accepted T) where
         )
 
     pub values-iff : ValuesRightAt T (spaced q) ↔ ValuesNear T q
-    values-iff = (values-near, values-right)
+    values-iff = (values-near, λ near. clear-values (near-clear near) (spaced q) (spaced-apart (omega arith)))
 
-    -- the same at every distance: further cycles ask nothing more
-    values-everywhere : ValuesRightAt T (spaced q)
-        → (n c i j a b : ℕ) → 1 ≤ n → ValuePair T n c i j a b → endOf (op T i) ≤ op T j .start + n * q
-    unfolding ValuesNear
-    values-everywhere right n c i j a b low p = go (decLt (n * q) (T .len))
-      where
-        go : Dec (n * q < T .len) → endOf (op T i) ≤ op T j .start + n * q
-        go (yes h) = values-near right n low h c i j a b p
-        go (no h) = omega (arith, ok .each i (p .writer .isOp) .fits)
+    pub values-clear : ValuesRightAt T (spaced q) → ValuesClear T q
+    values-clear right = near-clear (values-near right)
 
   -- values that are right at a period are right at every longer one
   pub values-longer : (q p : ℕ) → q ≤ p → ValuesRightAt T (spaced q) → ValuesRightAt T (spaced p)
-  unfolding ValuesNear
-  values-longer q p h right =
-      values-right p
-      (λ n low near c i j a b x. omega (arith, mul-le-mul-left n h, values-everywhere q right n c i j a b low x))
+  values-longer q p h right = clear-values q (values-clear q right) (spaced p) (spaced-apart h)

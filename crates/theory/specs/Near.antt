@@ -1,4 +1,5 @@
--- What the planner looks at in place of all runs: pairs of operations at distances n with n * q below the table's length.
+-- What the planner looks at in place of all runs: pairs of operations at distances n with n * q below the table's length; and of cycles that the
+-- operator starts, at every distance.
 -- Assumes nothing.
 use Prim.Native.Nat.{ℕ, _+_, _*_, _<_, _≤_}
 use Rattle.rules.specs.Sets.{In, Share, Overlap}
@@ -51,3 +52,13 @@ unfoldable pub ValuesNear : Table → ℕ → Type 0
 ValuesNear T q =
     (n : ℕ) → 1 ≤ n → n * q < T .len → (c i j a b : ℕ) → ValuePair T n c i j a b
     → endOf (op T i) ≤ op T j .start + n * q
+
+-- ---- document 02, No. 6: cycles that start g or more after one another
+
+-- i has let go of its boards when j starts n gaps later, at every distance n
+unfoldable pub BoardsClear : Table → ℕ → Type 0
+BoardsClear T g = (n : ℕ) → 1 ≤ n → (i j a b : ℕ) → BoardPair T n i j a b → heldTo (op T i) ≤ op T j .start + n * g
+
+-- and what is read there has ended
+unfoldable pub ValuesClear : Table → ℕ → Type 0
+ValuesClear T g = (n : ℕ) → 1 ≤ n → (c i j a b : ℕ) → ValuePair T n c i j a b → endOf (op T i) ≤ op T j .start + n * g

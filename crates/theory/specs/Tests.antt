@@ -1,12 +1,13 @@
--- Tests that compute: which modes a run can reach, whether a period is right, the period and the reply. Not part of any promise: proofs/Tests,
--- Exists and Answering show that they are what the rules say.
+-- Tests that compute: which modes a run can reach, whether a period is right, whether a gap serves, the period, the gap and the reply. Not part of any promise: proofs/Tests,
+-- Exists, Gaps and Answering show that they are what the rules say.
 -- Assumes nothing.
-use Prim.Native.Nat.{ℕ, zero, suc, _+_, _-_, _*_, _/_, _^_}
+use Prim.Native.Nat.{ℕ, zero, suc, _+_, _-_, _*_, _/_, _^_, _<_, _≤_}
+use mathlib.Core.Path.{_≡_}
 use mathlib.Core.Bool.{Bool, true, not, cond, _&&_}
 use mathlib.Core.List.{List, [], _∷_}
 use lib.Dec.{leb, ltb, eqb}
 use lib.Bits.{bitAnd, bitOr, bitXor}
-use Rattle.rules.specs.Sets.{has, shares, overlaps}
+use Rattle.rules.specs.Sets.{has, Share, shares, overlaps}
 use Rattle.rules.specs.Table.{Op, Table, nops, op, endOf, heldTo}
 use Rattle.rules.specs.Rows.{Reply, replyOf}
 use Rattle.rules.specs.Verdicts.{Verdict, accepted, _then_, onwards}
@@ -126,3 +127,39 @@ boardsAnswer s q = onwards (askedTable s q) (λ T. accepted (boardsFine T (reach
 unfoldable pub valuesAnswer : List ℕ → ℕ → Verdict Bool
 unfolding onwards judge asked _then_ valuesFine reachSet
 valuesAnswer s q = onwards (askedTable s q) (λ T. accepted (valuesFine T (reachSet T) q))
+
+-- ---- the gap: document 02, No. 6
+
+-- operation j, n + 1 gaps after i, starts before i has let go of a board of it
+unfoldable pub lateBad : Table → ℕ → ℕ → ℕ → ℕ → ℕ → Bool
+unfolding shares via
+lateBad T R g n i j =
+    ltb (suc n * g) (T .len)
+    && (shares (op T i .boards) (op T j .boards)
+    && (ltb (op T j .start + suc n * g) (heldTo (op T i))
+    && shares (via (T .follow) 0 n (bitAnd R (op T i .modes))) (op T j .modes)))
+
+-- i has let go of each board of j when it starts n + 1 gaps later, whatever n; R is the set of the modes that a run can reach
+abbrev pub LetGo : Table → ℕ → ℕ → Type 0
+LetGo T R g =
+    (i : ℕ) → i < nops T → (n j : ℕ) → j < nops T → Share (op T i .boards) (op T j .boards)
+    → shares (via (T .follow) 0 n (bitAnd R (op T i .modes))) (op T j .modes) ≡ true
+    → heldTo (op T i) ≤ op T j .start + suc n * g
+
+unfoldable pub boardsFree : Table → ℕ → ℕ → Bool
+unfolding all lateBad
+boardsFree T R g = all (λ n. all (λ i. all (λ j. not (lateBad T R g n i j)) (nops T)) (nops T)) (T .len)
+
+-- with equal gaps a reader comes as soon as it ever does, so the test of a period serves for values
+unfoldable pub servesb : Table → ℕ → Bool
+unfolding boardsFree valuesFine reachSet
+servesb T g = boardsFree T (reachSet T) g && valuesFine T (reachSet T) g
+
+unfoldable pub gapOf : Table → ℕ
+unfolding firstFrom servesb
+gapOf T = firstFrom (servesb T) (T .len - 1) 1
+
+-- the gap of a table's bytes
+unfoldable pub gapAnswer : List ℕ → Verdict ℕ
+unfolding onwards judge gapOf
+gapAnswer s = onwards (judge s) (λ T. accepted (gapOf T))

@@ -7,14 +7,16 @@ use mathlib.Core.Bool.{Bool}
 use lib.IntN.{ℤ}
 use Rattle.rules.specs.Table.{Table}
 use Rattle.rules.specs.Runs.{IsPeriod}
+use Rattle.rules.specs.Gaps.{IsGap}
 use Rattle.rules.specs.Verdicts.{Verdict}
 use Rattle.rules.specs.Judge.{judge, Numbers}
 use Rattle.rules.specs.Answers.{Fit, Arrive}
 use Rattle.theory.proofs.Period.{period-unique}
+use Rattle.theory.proofs.Gaps.{gap-unique}
 use Rattle.theory.proofs.Answering.{answers-unique, plan-unique, fold-unique, unfold-unique, write-unique, margin-unique, yes-no-unique}
 use Rattle.figures.specs.declared.Figures.{Figures}
 use Rattle.telling.specs.Telling.{Ended, endedOf, toldOf, yesOf, endedWith}
-use Rattle.calls.specs.Calls.{JudgeTells, NumbersTell, WriteEnds, PlanEnds, FoldEnds, UnfoldEnds, PeriodTells, YesNoTells, BoardsTell, ValuesTell, MarginEnds}
+use Rattle.calls.specs.Calls.{JudgeTells, NumbersTell, WriteEnds, PlanEnds, FoldEnds, UnfoldEnds, PeriodTells, GapTells, YesNoTells, BoardsTell, ValuesTell, MarginEnds}
 
 pub judge-one : (s : List ℕ) (f g : Figures) → JudgeTells s f → JudgeTells s g → f ≡ g
 judge-one s f g x y = x ∙ sym y
@@ -28,6 +30,9 @@ write-one N out l m (w, p, e) (x, q, f) = e ∙ ap endedOf (write-unique N out w
 pub period-one : (s : List ℕ) (f g : Figures) → PeriodTells s f → PeriodTells s g → f ≡ g
 period-one s f g (v, p, x) (u, q, y) =
     x ∙ ap toldOf (answers-unique IsPeriod period-unique (judge s) v u p q) ∙ sym y
+
+pub gap-one : (s : List ℕ) (f g : Figures) → GapTells s f → GapTells s g → f ≡ g
+gap-one s f g (v, p, x) (u, q, y) = x ∙ ap toldOf (answers-unique IsGap gap-unique (judge s) v u p q) ∙ sym y
 
 yes-no-one : (P : Table → ℕ → Type 0) (s : List ℕ) (q : ℕ) (f g : Figures) → YesNoTells P s q f → YesNoTells P s q g → f ≡ g
 yes-no-one P s q f g (v, p, x) (u, r, y) = x ∙ ap (λ (w : Verdict Bool). toldOf (yesOf w)) (yes-no-unique P s q v u p r) ∙ sym y

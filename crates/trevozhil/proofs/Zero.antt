@@ -10,18 +10,19 @@ use lib.IntN.{ℤ}
 use lib.ListN.{length, drop}
 use Rattle.rules.specs.Table.{Table}
 use Rattle.rules.specs.Runs.{IsPeriod}
+use Rattle.rules.specs.Gaps.{IsGap}
 use Rattle.rules.specs.Rows.{Reply, startsOf, margin}
 use Rattle.rules.specs.Verdicts.{Verdict, accepted, refused, _then_, onwards}
 use Rattle.rules.specs.Bytes.{tableBytes, replyBytes, startsBytes}
 use Rattle.rules.specs.Judge.{judge, judgeReply, Numbers, judgeNumbers}
-use Rattle.rules.specs.Answers.{Written, put, written, bytesOf, Planned, ReplyTo, IsText, askedTable, YesFor, Fit, Arrive, marginTest}
+use Rattle.rules.specs.Answers.{Written, put, written, bytesOf, Planned, Answers, ReplyTo, IsText, askedTable, YesFor, Fit, Arrive, marginTest}
 use Rattle.theory.proofs.Verdicts.{never-refused, then-accepts, then-first, onwards-accepts, onwards-first}
 use Rattle.theory.proofs.Answering.{put-room, put-short}
 use Rattle.theory.proofs.Asking.{question, questioned, answered-first, answered-back}
 use Rattle.figures.specs.declared.Figures.{Figures}
 use Rattle.figures.specs.Figures.{figuresOf}
 use Rattle.telling.specs.Telling.{toldOf, unwritten, yesOf, Ended, ended, endedOf, endedWith}
-use Rattle.calls.specs.Calls.{JudgeTells, NumbersTell, WriteEnds, PlanEnds, FoldEnds, UnfoldEnds, PeriodTells, YesNoTells, BoardsTell, ValuesTell, MarginEnds}
+use Rattle.calls.specs.Calls.{JudgeTells, NumbersTell, WriteEnds, PlanEnds, FoldEnds, UnfoldEnds, PeriodTells, GapTells, YesNoTells, BoardsTell, ValuesTell, MarginEnds}
 use Rattle.trevozhil.proofs.Numbered.{Numbered, good, bad, then-numbered, onwards-numbered, judge-numbered, numbers-numbered, reply-numbered, asked-table-numbered, margin-numbered, put-numbered, answers-numbered}
 
 -- 0 is told exactly where P holds, and no number above 10
@@ -133,15 +134,24 @@ fold-zero s out l (w, (text, is, p), e) = (text, is, put-zero text out l (e ∙ 
 
 -- ---- questions
 
--- trevozhil_period: where the table is accepted; a is its period
-pub period-zero : (s : List ℕ) (f : Figures) → PeriodTells s f → ZeroAlone f ((T : Table) × (judge s ≡ accepted T) × IsPeriod T (f .a))
-period-zero s f (v, r, e) =
-    zero-as e (told-zero v (answers-numbered IsPeriod (judge-numbered s) r))
+-- a number of a table: where the table is accepted; a is that number
+number-zero : (P : Table → ℕ → Type 0) (s : List ℕ) (f : Figures) (v : Verdict ℕ) → Answers P (judge s) v → f ≡ toldOf v
+    → ZeroAlone f ((T : Table) × (judge s ≡ accepted T) × P T (f .a))
+number-zero P s f v r e =
+    zero-as e (told-zero v (answers-numbered P (judge-numbered s) r))
     (λ (n, x).
-    let (T, y, period) = answered-first IsPeriod (judge s) v r x in
+    let (T, y, is) = answered-first P (judge s) v r x in
     let same : f .a ≡ n = ap (λ (g : Figures). g .a) (e ∙ ap toldOf x) in
-    (T, y, rw same period))
-    (λ (T, y, period). let (n, _, x) = answered-back IsPeriod (judge s) v r y in (n, x))
+    (T, y, rw same is))
+    (λ (T, y, is). let (n, _, x) = answered-back P (judge s) v r y in (n, x))
+
+-- trevozhil_period: a is the period
+pub period-zero : (s : List ℕ) (f : Figures) → PeriodTells s f → ZeroAlone f ((T : Table) × (judge s ≡ accepted T) × IsPeriod T (f .a))
+period-zero s f (v, r, e) = number-zero IsPeriod s f v r e
+
+-- trevozhil_gap: a is the gap
+pub gap-zero : (s : List ℕ) (f : Figures) → GapTells s f → ZeroAlone f ((T : Table) × (judge s ≡ accepted T) × IsGap T (f .a))
+gap-zero s f (v, r, e) = number-zero IsGap s f v r e
 
 -- a yes or a no about q: where the table is accepted and q is from 1 to its length; a is 1 for yes and 0 for no
 yes-no-zero : (P : Table → ℕ → Type 0) (s : List ℕ) (q : ℕ) (f : Figures) → YesNoTells P s q f

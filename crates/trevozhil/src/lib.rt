@@ -2,7 +2,7 @@
 ghost use Rattle.figures.specs.Figures.{figuresOf};
 ghost use Rattle.handed.specs.Handed.{numbers};
 ghost use Rattle.telling.specs.Telling.{ended};
-ghost use Rattle.calls.specs.Calls.{JudgeTells, NumbersTell, WriteEnds, PlanEnds, FoldEnds, UnfoldEnds, PeriodTells, BoardsTell, ValuesTell, MarginEnds};
+ghost use Rattle.calls.specs.Calls.{JudgeTells, NumbersTell, WriteEnds, PlanEnds, FoldEnds, UnfoldEnds, PeriodTells, GapTells, BoardsTell, ValuesTell, MarginEnds};
 
 // A table's bytes, judged.
 #[no_mangle]
@@ -88,6 +88,14 @@ pub extern "C" fn trevozhil_period(s: &[u8], a: &mut u64, b: &mut u64) -> u32
     ensures { λ r. ⌜ PeriodTells (now (s .entry)) (figuresOf r (now (a .exit)) (now (b .exit))) ⌝ }
 {
     calls::period(s, a, b)
+}
+
+// The gap of a table.
+#[no_mangle]
+pub extern "C" fn trevozhil_gap(s: &[u8], a: &mut u64, b: &mut u64) -> u32
+    ensures { λ r. ⌜ GapTells (now (s .entry)) (figuresOf r (now (a .exit)) (now (b .exit))) ⌝ }
+{
+    calls::gap(s, a, b)
 }
 
 // Whether the boards of a table fit at a period.

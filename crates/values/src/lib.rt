@@ -15,7 +15,7 @@ ghost use Rattle.values.specs.Bounds.{IsBound, TurnsFine, WriterFine, Ce
 // The bound, raised at every distance by what is written at `end` in one of the modes `from`, until it is written over: an idle mode hides
 // nothing. The search ends where n + 1 cycles of the bound itself take until `end`, for the reader that starts first, or where no mode is
 // new: a reader in a mode that was seen before asked for more then than it would now.
-fn ask_turns(
+pub fn ask_turns(
     cols: &[u32; 224],
     follow: &[u32],
     readers: u32,

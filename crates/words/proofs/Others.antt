@@ -9,7 +9,7 @@ use types.Run.{OneOf, miss}
 use Rattle.rules.specs.Words.{number, boardsAsked, valuesAsked, nothingAsked, withNumber, asks}
 use Rattle.rules.specs.Words as rules
 use Rattle.words.specs.declared.Word.{Word}
-use Rattle.words.specs.declared.Word.the-variants.{Boards, Values, Margin, Unfold, Number, Other}
+use Rattle.words.specs.declared.Word.the-variants.{Boards, Values, Margin, Unfold, Gap, Number, Other}
 use Rattle.words.specs.Words.{wordIs}
 use Rattle.words.specs.AskLaws.{one-not}
 use Rattle.words.proofs.Word.{the-type}
@@ -17,17 +17,17 @@ use Rattle.words.proofs.Word.{the-type}
 -- ---- the tags of all words but one kind
 
 abbrev noNumber : List ℕ
-noNumber = 0 ∷ 1 ∷ 2 ∷ 3 ∷ 5 ∷ []
-
-abbrev noUnfold : List ℕ
-noUnfold = 0 ∷ 1 ∷ 2 ∷ 4 ∷ 5 ∷ []
+noNumber = 0 ∷ 1 ∷ 2 ∷ 3 ∷ 4 ∷ 6 ∷ []
 
 abbrev noMargin : List ℕ
-noMargin = 0 ∷ 1 ∷ 3 ∷ 4 ∷ 5 ∷ []
+noMargin = 0 ∷ 1 ∷ 3 ∷ 4 ∷ 5 ∷ 6 ∷ []
 
 -- and but two
+abbrev noUnfoldGap : List ℕ
+noUnfoldGap = 0 ∷ 1 ∷ 2 ∷ 5 ∷ 6 ∷ []
+
 abbrev noBoardsValues : List ℕ
-noBoardsValues = 2 ∷ 3 ∷ 4 ∷ 5 ∷ []
+noBoardsValues = 2 ∷ 3 ∷ 4 ∷ 5 ∷ 6 ∷ []
 
 abbrev pub IsOneOf : List ℕ → Word → Type 0
 IsOneOf ks w = OneOf ks (tagOf the-type w)
@@ -41,15 +41,17 @@ no-number Boards k f ws = refl
 no-number Values k f ws = refl
 no-number Margin k f ws = refl
 no-number Unfold k f ws = refl
-no-number (Number n) k f ws = absurd (miss noNumber 4 tt k)
+no-number Gap k f ws = refl
+no-number (Number n) k f ws = absurd (miss noNumber 5 tt k)
 no-number Other k f ws = refl
 
-pub one-other : (w : Word) → IsOneOf noUnfold w → asks (wordIs w ∷ []) ≡ nothingAsked
+pub one-other : (w : Word) → IsOneOf noUnfoldGap w → asks (wordIs w ∷ []) ≡ nothingAsked
 unfolding asks
 one-other Boards k = refl
 one-other Values k = refl
 one-other Margin k = refl
-one-other Unfold k = absurd (miss noUnfold 3 tt k)
+one-other Unfold k = absurd (miss noUnfoldGap 3 tt k)
+one-other Gap k = absurd (miss noUnfoldGap 4 tt k)
 one-other (Number n) k = refl
 one-other Other k = refl
 
@@ -59,6 +61,7 @@ two-other Boards k q = absurd (miss noBoardsValues 0 tt k)
 two-other Values k q = absurd (miss noBoardsValues 1 tt k)
 two-other Margin k q = refl
 two-other Unfold k q = refl
+two-other Gap k q = refl
 two-other (Number n) k q = refl
 two-other Other k q = refl
 
@@ -68,6 +71,7 @@ two-no-number Boards v k = no-number v k _ []
 two-no-number Values v k = no-number v k _ []
 two-no-number Margin v k = no-number v k _ []
 two-no-number Unfold v k = refl
+two-no-number Gap v k = refl
 two-no-number (Number n) v k = refl
 two-no-number Other v k = refl
 
@@ -77,5 +81,6 @@ five-other Boards k a b c d = one-not boardsAsked (a ∷ b ∷ c ∷ d ∷ []) (
 five-other Values k a b c d = one-not valuesAsked (a ∷ b ∷ c ∷ d ∷ []) (λ e. omega arith)
 five-other Margin k a b c d = absurd (miss noMargin 2 tt k)
 five-other Unfold k a b c d = refl
+five-other Gap k a b c d = refl
 five-other (Number n) k a b c d = refl
 five-other Other k a b c d = refl

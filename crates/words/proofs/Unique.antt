@@ -7,9 +7,9 @@ use mathlib.Core.List.{List, [], _∷_}
 use lib.ListN.{length, take, replicate, length-replicate}
 use lib.Seq.{take-nil}
 use Rattle.rules.specs.Words as rules
-use Rattle.rules.specs.Words.{boardsName, valuesName, marginName, unfoldName, number, other, foldAsked, boardsAsked, valuesAsked, marginAsked, unfoldAsked, nothingAsked}
+use Rattle.rules.specs.Words.{boardsName, valuesName, marginName, unfoldName, gapName, number, other, foldAsked, boardsAsked, valuesAsked, marginAsked, unfoldAsked, gapAsked, nothingAsked}
 use Rattle.words.specs.declared.Question.{Question}
-use Rattle.words.specs.declared.Question.the-variants.{Fold, Boards, Values, Margin, Unfold, Nothing}
+use Rattle.words.specs.declared.Question.the-variants.{Fold, Boards, Values, Margin, Unfold, Gap, Nothing}
 use Rattle.words.specs.declared.Word.{Word}
 use Rattle.words.specs.declared.Word.the-variants as word
 use Rattle.words.specs.Words.{readAs, wordIs, askedBy, Asks}
@@ -21,6 +21,7 @@ held (boardsAsked q) = Boards q
 held (valuesAsked q) = Values q
 held (marginAsked i j n q) = Margin i j n q
 held unfoldAsked = Unfold
+held gapAsked = Gap
 held nothingAsked = Nothing
 
 held-asked : (x : Question) → held (askedBy x) ≡ x
@@ -29,6 +30,7 @@ held-asked (Boards q) = refl
 held-asked (Values q) = refl
 held-asked (Margin i j n q) = refl
 held-asked Unfold = refl
+held-asked Gap = refl
 held-asked Nothing = refl
 
 pub asked-one : (x y : Question) → askedBy x ≡ askedBy y → x ≡ y
@@ -40,6 +42,7 @@ heldWord boardsName = word.Boards
 heldWord valuesName = word.Values
 heldWord marginName = word.Margin
 heldWord unfoldName = word.Unfold
+heldWord gapName = word.Gap
 heldWord (number n) = word.Number n
 heldWord other = word.Other
 
@@ -48,6 +51,7 @@ held-word word.Boards = refl
 held-word word.Values = refl
 held-word word.Margin = refl
 held-word word.Unfold = refl
+held-word word.Gap = refl
 held-word (word.Number n) = refl
 held-word word.Other = refl
 

@@ -6,7 +6,7 @@ use mathlib.Core.List.{List, [], _∷_, map, map-map}
 use native.Mathlib.Omega.{arith}
 use lib.ListN.{length, take, length-map}
 use lib.Seq.{take-all}
-use Rattle.rules.specs.Words.{Word, Question, boardsName, valuesName, marginName, unfoldName, number, other, boardsAsked, valuesAsked, marginAsked, unfoldAsked, nothingAsked, withNumber, withNone, asks, wordOf, questionOf}
+use Rattle.rules.specs.Words.{Word, Question, boardsName, valuesName, marginName, unfoldName, gapName, number, other, boardsAsked, valuesAsked, marginAsked, unfoldAsked, gapAsked, nothingAsked, withNumber, withNone, asks, wordOf, questionOf}
 use Rattle.words.specs.declared.Question as code
 use Rattle.words.specs.Words.{capped, cappedWord, cappedQuestion, readAs, askedBy, Asks}
 
@@ -25,6 +25,7 @@ number-not f (boardsName ∷ ws) h = refl
 number-not f (valuesName ∷ ws) h = refl
 number-not f (marginName ∷ ws) h = refl
 number-not f (unfoldName ∷ ws) h = refl
+number-not f (gapName ∷ ws) h = refl
 number-not f (number n ∷ ws) h = h n ws refl
 number-not f (other ∷ ws) h = refl
 
@@ -38,7 +39,7 @@ unfolding asks
 four-not ws h =
     number-not _ ws (λ i vs e. number-not _ vs (λ j us f. number-not _ us (λ n ts g. one-not (marginAsked i j n) ts (λ z. h (omega arith)))))
 
--- `boards Q` and `values Q` are two words, `margin I J N Q` are five, `unfold` is one
+-- `boards Q` and `values Q` are two words, `margin I J N Q` are five, `unfold` and `gap` are one
 pub count-not : (ws : List Word) → (length ws ≡ 0 → ⊥) → (length ws ≡ 1 → ⊥) → (length ws ≡ 2 → ⊥) → (length ws ≡ 5 → ⊥) → asks ws ≡ nothingAsked
 unfolding asks
 count-not [] none one two five = absurd (none refl)
@@ -46,6 +47,7 @@ count-not (boardsName ∷ ws) none one two five = one-not boardsAsked ws (λ e. 
 count-not (valuesName ∷ ws) none one two five = one-not valuesAsked ws (λ e. two (ap suc e))
 count-not (marginName ∷ ws) none one two five = four-not ws (λ e. five (ap suc e))
 count-not (unfoldName ∷ ws) none one two five = none-not unfoldAsked ws (λ e. one (ap suc e))
+count-not (gapName ∷ ws) none one two five = none-not gapAsked ws (λ e. one (ap suc e))
 count-not (number n ∷ ws) none one two five = refl
 count-not (other ∷ ws) none one two five = refl
 
@@ -72,6 +74,7 @@ capped-number f g h (boardsName ∷ ws) = refl
 capped-number f g h (valuesName ∷ ws) = refl
 capped-number f g h (marginName ∷ ws) = refl
 capped-number f g h (unfoldName ∷ ws) = refl
+capped-number f g h (gapName ∷ ws) = refl
 capped-number f g h (number n ∷ ws) = h n ws
 capped-number f g h (other ∷ ws) = refl
 
@@ -83,6 +86,7 @@ capped-asks (valuesName ∷ ws) = capped-number _ _ (λ q. capped-none (valuesAs
 capped-asks (marginName ∷ ws) =
     capped-number _ _ (λ i. capped-number _ _ (λ j. capped-number _ _ (λ n. capped-number _ _ (λ q. capped-none (marginAsked i j n q))))) ws
 capped-asks (unfoldName ∷ ws) = capped-none unfoldAsked ws
+capped-asks (gapName ∷ ws) = capped-none gapAsked ws
 capped-asks (number n ∷ ws) = refl
 capped-asks (other ∷ ws) = refl
 

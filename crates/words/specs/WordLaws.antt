@@ -10,7 +10,7 @@ use lib.Dec.{leb, eqb}
 use lib.ListN.{length, getD, drop}
 use lib.Seq.{drop-cons, drop-length}
 use borrow.Author.Tests.{eq-eqb, ne-eqb}
-use Rattle.rules.specs.Words.{isDigit, digitsOnly, isNumber, valueFrom, sameBytes, boardsBytes, valuesBytes, marginBytes, unfoldBytes, boardsName, valuesName, marginName, unfoldName, wordOf}
+use Rattle.rules.specs.Words.{isDigit, digitsOnly, isNumber, valueFrom, sameBytes, boardsBytes, valuesBytes, marginBytes, unfoldBytes, gapBytes, boardsName, valuesName, marginName, unfoldName, gapName, wordOf}
 use Rattle.theory.proofs.Says.{says-leb, says-and}
 use Rattle.words.specs.Words.{capped, unnamedOf}
 
@@ -109,6 +109,7 @@ pub word-row : (w : List ℕ) → wordOf w
     ≡ cond (sameBytes w boardsBytes) boardsName
     (cond (sameBytes w valuesBytes) valuesName
     (cond (sameBytes w marginBytes) marginName
-    (cond (sameBytes w unfoldBytes) unfoldName (unnamedOf w))))
+    (cond (sameBytes w unfoldBytes) unfoldName
+    (cond (sameBytes w gapBytes) gapName (unnamedOf w)))))
 unfolding wordOf
 word-row w = refl

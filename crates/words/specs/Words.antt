@@ -5,7 +5,7 @@ use mathlib.Core.Path.{_≡_}
 use mathlib.Core.Bool.{cond}
 use mathlib.Core.List.{List}
 use lib.ListN.{length, take}
-use Rattle.rules.specs.Words.{isNumber, valueOf, wordOf, boardsName, valuesName, marginName, unfoldName, number, other, foldAsked, boardsAsked, valuesAsked, marginAsked, unfoldAsked, nothingAsked, asks}
+use Rattle.rules.specs.Words.{isNumber, valueOf, wordOf, boardsName, valuesName, marginName, unfoldName, gapName, number, other, foldAsked, boardsAsked, valuesAsked, marginAsked, unfoldAsked, gapAsked, nothingAsked, asks}
 use Rattle.rules.specs.Words as rules
 use Rattle.words.specs.declared.Word.{Word}
 use Rattle.words.specs.declared.Word.the-variants as word
@@ -25,6 +25,7 @@ cappedWord boardsName = boardsName
 cappedWord valuesName = valuesName
 cappedWord marginName = marginName
 cappedWord unfoldName = unfoldName
+cappedWord gapName = gapName
 cappedWord (number n) = number (capped n)
 cappedWord other = other
 
@@ -34,6 +35,7 @@ cappedQuestion (boardsAsked q) = boardsAsked (capped q)
 cappedQuestion (valuesAsked q) = valuesAsked (capped q)
 cappedQuestion (marginAsked i j n q) = marginAsked (capped i) (capped j) (capped n) (capped q)
 cappedQuestion unfoldAsked = unfoldAsked
+cappedQuestion gapAsked = gapAsked
 cappedQuestion nothingAsked = nothingAsked
 
 -- a word as the code reads it
@@ -51,6 +53,7 @@ wordIs word.Boards = boardsName
 wordIs word.Values = valuesName
 wordIs word.Margin = marginName
 wordIs word.Unfold = unfoldName
+wordIs word.Gap = gapName
 wordIs (word.Number n) = number n
 wordIs word.Other = other
 
@@ -60,6 +63,7 @@ askedBy (question.Boards q) = boardsAsked q
 askedBy (question.Values q) = valuesAsked q
 askedBy (question.Margin i j n q) = marginAsked i j n q
 askedBy question.Unfold = unfoldAsked
+askedBy question.Gap = gapAsked
 askedBy question.Nothing = nothingAsked
 
 -- ---- what is asked, by the number of words and the first five of them, as they are read

@@ -16,6 +16,7 @@ pub enum Question {
     Values(u64),
     Margin(u64, u64, u64, u64),
     Unfold,
+    Gap,
     Nothing,
 }
 
@@ -25,6 +26,7 @@ pub enum Word {
     Values,
     Margin,
     Unfold,
+    Gap,
     Number(u64),
     Other,
 }
@@ -131,6 +133,9 @@ pub fn word_of(w: &[u8]) -> Word
     if same_bytes(w, b"unfold") {
         return Word::Unfold;
     }
+    if same_bytes(w, b"gap") {
+        return Word::Gap;
+    }
     unnamed(w)
 }
 
@@ -142,6 +147,7 @@ fn ask_one(a: Word) -> Question
 {
     match a {
         Word::Unfold => Question::Unfold,
+        Word::Gap => Question::Gap,
         _ => Question::Nothing,
     }
 }
@@ -205,6 +211,7 @@ pub fn is_asked(q: Question) -> bool
         Question::Values(_) => true,
         Question::Margin(_, _, _, _) => true,
         Question::Unfold => true,
+        Question::Gap => true,
         Question::Nothing => false,
     }
 }

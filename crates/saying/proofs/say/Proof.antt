@@ -1,9 +1,9 @@
 -- Each question is answered by its own function, and what it answers is told in its text.
 -- Assumes nothing.
-use Rattle.questions.specs.Questions.{truthOf}
+use Rattle.questions.specs.Questions.{truthOf, foundOf}
 use Rattle.margins.specs.Margins.{measuredOf}
 use borrow.Author.Needs.{needs}
-use Rattle.saying.specs.SaidLaws.{said-fold, said-boards, said-values, said-margin, said-unfold, said-nothing}
+use Rattle.saying.specs.SaidLaws.{said-fold, said-boards, said-values, said-margin, said-unfold, said-gap, said-nothing}
 use Rattle.saying.proofs.say.Statement.{statement}
 use Rattle.saying.proofs.say.Tie as tie
 
@@ -49,6 +49,15 @@ starts-text-requires c κs = search needs
 enum-told-3 : tie.Need-enum-told-3
 enum-told-3 c = search needs
 
+gap-of-requires : tie.Need-gap-of-requires
+gap-of-requires c κs = search needs
+
+gap-text-requires : tie.Need-gap-text-requires
+gap-text-requires c κs = search needs
+
+enum-told-4 : tie.Need-enum-told-4
+enum-told-4 c = search needs
+
 askable-text-requires : tie.Need-askable-text-requires
 askable-text-requires c κs = search needs
 
@@ -74,7 +83,12 @@ returns-5 : tie.Need-returns-5
 returns-5 c = said-unfold _ (c .before .enum-told2 .given .1) (c .starts-text .ensures)
 
 returns-6 : tie.Need-returns-6
-returns-6 c = said-nothing _ (c .before .enum-told3 .given .1) (c .askable-text .ensures)
+returns-6 c =
+    let asked = c .before in
+    said-gap _ (foundOf (asked .gap-of .result)) (asked .before .enum-told3 .given .1) (asked .gap-of .ensures) (c .gap-text .ensures)
+
+returns-7 : tie.Need-returns-7
+returns-7 c = said-nothing _ (c .before .enum-told4 .given .1) (c .askable-text .ensures)
 
 pub say-spec : {M : Type 1} → statement M
 say-spec =
@@ -94,10 +108,14 @@ say-spec =
     enum-told-2
     starts-text-requires
     enum-told-3
+    gap-of-requires
+    gap-text-requires
+    enum-told-4
     askable-text-requires
     returns
     returns-2
     returns-3
     returns-4
     returns-5
-    returns-6)
+    returns-6
+    returns-7)

@@ -1,4 +1,4 @@
--- The period is told as 0 and itself, and a refusal by its figures.
+-- A number of ticks is told as 0 and itself, and a refusal by its figures.
 -- Assumes nothing.
 use mathlib.Core.Path.{_∙_}
 use Rattle.telling.specs.TellingLaws.{refusal-told}

@@ -57,17 +57,33 @@ returns-4 c =
     let first = second .before .before .before in
     simp (word-row, sym (first .before .same-bytes .ensures) ∙ first .if1 .left, sym (second .before .same-bytes2 .ensures) ∙ second .if2 .left, sym (third .before .same-bytes3 .ensures) ∙ third .if3 .left, sym (c .before .same-bytes4 .ensures) ∙ c .if4 .taken)
 
-unnamed-requires : tie.Need-unnamed-requires
-unnamed-requires c κs = search needs
+slice-aggregate-same-bytes-5 : tie.Need-slice-aggregate-same-bytes-5
+slice-aggregate-same-bytes-5 c = search needs
+
+same-bytes-requires-5 : tie.Need-same-bytes-requires-5
+same-bytes-requires-5 c κs = search needs
 
 returns-5 : tie.Need-returns-5
 unfolding cappedWord
 returns-5 c =
-    let fourth = c .before in
+    let fourth = c .before .before .before in
     let third = fourth .before .before .before in
     let second = third .before .before .before in
     let first = second .before .before .before in
-    simp (word-row, sym (first .before .same-bytes .ensures) ∙ first .if1 .left, sym (second .before .same-bytes2 .ensures) ∙ second .if2 .left, sym (third .before .same-bytes3 .ensures) ∙ third .if3 .left, sym (fourth .before .same-bytes4 .ensures) ∙ fourth .if4 .left) (c .unnamed .ensures)
+    simp (word-row, sym (first .before .same-bytes .ensures) ∙ first .if1 .left, sym (second .before .same-bytes2 .ensures) ∙ second .if2 .left, sym (third .before .same-bytes3 .ensures) ∙ third .if3 .left, sym (fourth .before .same-bytes4 .ensures) ∙ fourth .if4 .left, sym (c .before .same-bytes5 .ensures) ∙ c .if5 .taken)
+
+unnamed-requires : tie.Need-unnamed-requires
+unnamed-requires c κs = search needs
+
+returns-6 : tie.Need-returns-6
+unfolding cappedWord
+returns-6 c =
+    let fifth = c .before in
+    let fourth = fifth .before .before .before in
+    let third = fourth .before .before .before in
+    let second = third .before .before .before in
+    let first = second .before .before .before in
+    simp (word-row, sym (first .before .same-bytes .ensures) ∙ first .if1 .left, sym (second .before .same-bytes2 .ensures) ∙ second .if2 .left, sym (third .before .same-bytes3 .ensures) ∙ third .if3 .left, sym (fourth .before .same-bytes4 .ensures) ∙ fourth .if4 .left, sym (fifth .before .same-bytes5 .ensures) ∙ fifth .if5 .left) (c .unnamed .ensures)
 
 pub word-of-spec : {M : Type 1} → statement M
 word-of-spec =
@@ -85,5 +101,8 @@ word-of-spec =
     slice-aggregate-same-bytes-4
     same-bytes-requires-4
     returns-4
+    slice-aggregate-same-bytes-5
+    same-bytes-requires-5
+    returns-5
     unnamed-requires
-    returns-5)
+    returns-6)
