@@ -9,6 +9,7 @@ use crate::answers::{DECIDER_FIELD, LONGEST_REPLY};
 use crate::blamed;
 use crate::examples::K1;
 use crate::findings::{lent, memory_for, planned, Findings, Seen};
+use crate::gaps;
 use crate::generate::{self, Seed};
 use crate::hex::{bytes_in, hex};
 use crate::judge::{bytes_of, bytes_of_numbers, judge, judge_numbers, numbers_of, put};
@@ -161,12 +162,29 @@ fn compare_margin(bytes: &[u8], asked: Margin, seed: &mut Seed, findings: &mut F
     findings.note("margin", input, &library, &planner);
 }
 
-/// Period, plan and fold; what is written goes into so many buffers.
+/// The gap of a table, which is counted by itself where it is the period, where it is longer, and
+/// where it is longer and p.
+fn compare_gap(bytes: &[u8], period: Result<usize, Refusal>, findings: &mut Findings) {
+    let table = judge(bytes);
+    let answer = table.as_ref().map(|table| gaps::gap(table) as usize);
+    let answer = answer.map_err(|refusal| *refusal);
+    let p = table.map(|table| table.len as usize);
+    let name = match answer {
+        Err(_) => "gap",
+        Ok(_) if answer == period => "gap, the period",
+        Ok(_) if answer == p => "gap, longer, p",
+        Ok(_) => "gap, longer",
+    };
+    compare_question(name, bytes, library::gap, answer, findings);
+}
+
+/// Period, gap, plan and fold; what is written goes into so many buffers.
 fn compare_folds(bytes: &[u8], most: usize, seed: &mut Seed, findings: &mut Findings) {
     let folded = answers::fold(bytes);
     let answer = folded.as_ref().map(|reply| reply.period as usize);
     let answer = answer.map_err(|refusal| *refusal);
     compare_question("period", bytes, library::period, answer, findings);
+    compare_gap(bytes, answer, findings);
     let fold = Writing {
         name: folded.as_ref().map_or("fold, refused", |_| "fold"),
         call: library::fold,
@@ -196,7 +214,7 @@ fn draw_bytes(seed: &mut Seed, findings: &mut Findings) {
     }
 }
 
-/// An accepted table: its boards and its values at some period, some margin, its period
+/// An accepted table: its boards and its values at some period, some margin, its period, its gap
 /// and what is written into so many buffers, and its starts back from the reply.
 fn draw_table(table: &Table, most: usize, seed: &mut Seed, findings: &mut Findings) {
     let bytes = bytes_of(table);
@@ -434,6 +452,30 @@ fn fixed_margins(seed: &mut Seed, findings: &mut Findings) {
     }
 }
 
+/// The gap alone, since a search for these periods takes long.
+fn compare_fixed_gap(table: &Table, findings: &mut Findings) {
+    let (bytes, gap) = (bytes_of(table), gaps::gap(table) as usize);
+    compare_question("gap, fixed", &bytes, library::gap, Ok(gap), findings);
+}
+
+/// Gaps that are asked for by cycles 1 to 32 turns apart, by boards and by values, in tables of so many ticks; and those
+/// of tables over rings, and of those in which there are most distances.
+fn fixed_gaps(seed: &mut Seed, findings: &mut Findings) {
+    for p in [2, 3, 31, 32, 33, 64, 65, 97, 999, 1000] {
+        for turns in 1..=32 {
+            for boards in [true, false] {
+                let table = generate::ring_apart(p, turns, boards);
+                compare_fixed_gap(&table, findings);
+            }
+        }
+    }
+    for _ in 0..3 {
+        for draw in [generate::ring_drawn, generate::ring_placed, generate::near] {
+            compare_fixed_gap(&draw(seed), findings);
+        }
+    }
+}
+
 // ---- replies ------------------------------------------------------------
 
 fn compare_unfold(reply: &[u8], seed: &mut Seed, findings: &mut Findings) {
@@ -527,6 +569,7 @@ pub fn against(count: u64, mut seed: Seed) -> bool {
     fixed_longest(&mut seed, &mut findings);
     fixed_replies(&mut seed, &mut findings);
     fixed_margins(&mut seed, &mut findings);
+    fixed_gaps(&mut seed, &mut findings);
     for turn in 0..count {
         let draw = DRAWS[turn as usize % DRAWS.len()];
         draw(&mut seed, &mut findings);

@@ -1,6 +1,7 @@
 //! The whole public answers (document 01, "Runs and right periods", "Bytes",
 //! "Numbers of refusal", "The program").
 
+use crate::gaps;
 use crate::judge::{demand, judge, judge_ranges, number_in, push_field, push_number, put};
 use crate::judge::{Fields, Refusal, Table, ASK, MOST_OPS};
 use crate::walks::{self, period};
@@ -171,6 +172,11 @@ pub fn boards_fit(bytes: &[u8], q: u64) -> Result<bool, Refusal> {
 /// "whether values arrive"
 pub fn values_arrive(bytes: &[u8], q: u64) -> Result<bool, Refusal> {
     judge_period_question(bytes, q).map(|table| walks::values_arrive(&table, q))
+}
+
+/// "the smallest gap", of a table that is accepted
+pub fn gap(bytes: &[u8]) -> Result<u64, Refusal> {
+    judge(bytes).map(|table| gaps::gap(&table))
 }
 
 /// "one line `refused n a b`"

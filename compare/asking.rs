@@ -103,12 +103,14 @@ fn about_table(bytes: &[u8], turn: usize) -> Vec<Case> {
         Ok(table) => {
             about_periods(bytes, walks::period(&table), table.len, &mut cases);
             about_margins(bytes, &table, turn, &mut cases);
+            cases.push(case(&["gap"], bytes));
             cases.push(case(&["unfold"], &reply_of(bytes)));
         }
         Err(_) => {
             about_periods(bytes, 1, 1, &mut cases);
             cases.push(case(&["margin", "0", "0", "1", "1"], bytes));
             cases.push(case(&["margin", "99", "99", "0", "0"], bytes));
+            cases.push(case(&["gap"], bytes));
         }
     }
     cases
@@ -164,6 +166,7 @@ fn about_damaged_tables() -> Vec<Case> {
             case(&["values", "0"], &bytes),
             case(&["margin", "0", "0", "1", "3"], &bytes),
             case(&["margin", "0", "9", "1", "3"], &bytes),
+            case(&["gap"], &bytes),
         ]
     };
     damaged_tables().into_iter().flat_map(ask_all).collect()
@@ -212,8 +215,9 @@ fn about_replies() -> Vec<Case> {
 // ---- words, good and bad ------------------------------------------------
 
 /// Lines that are a question. K1 has one operation, and is 5 ticks long.
-const GOOD: [&[&str]; 21] = [
+const GOOD: [&[&str]; 22] = [
     &[],
+    &["gap"],
     &["boards", "000"],
     &["boards", "002"],
     &["boards", "00000000000000000000000000000003"],
@@ -238,7 +242,7 @@ const GOOD: [&[&str]; 21] = [
 
 /// Lines that are none: no such word, too few words, too many, and words that are no number
 /// where one is due.
-const BAD: [&[&str]; 62] = [
+const BAD: [&[&str]; 74] = [
     &[""],
     &["", ""],
     &[" "],
@@ -281,6 +285,18 @@ const BAD: [&[&str]; 62] = [
     &["unfold", "3"],
     &["unfold", "unfold"],
     &["unfold", "0", "0", "1", "3"],
+    &["gap", ""],
+    &["gap", "3"],
+    &["gap", "0"],
+    &["gap", "gap"],
+    &["gap", "0", "0", "1", "3"],
+    &["Gap"],
+    &["GAP"],
+    &["ga"],
+    &["gaps"],
+    &["gap "],
+    &[" gap"],
+    &["unfold", "gap"],
     &["boards", ""],
     &["boards", "+3"],
     &["values", "-3"],
@@ -361,13 +377,14 @@ fn drawn_number(seed: &mut Seed) -> Word {
 }
 
 fn drawn_question(seed: &mut Seed) -> Vec<Word> {
-    let kinds: [(&[u8], u64); 4] = [
+    let kinds: [(&[u8], u64); 5] = [
         (b"boards", 1),
         (b"values", 1),
         (b"margin", 4),
         (b"unfold", 0),
+        (b"gap", 0),
     ];
-    let (name, numbers) = kinds[seed.below(4) as usize];
+    let (name, numbers) = kinds[seed.below(5) as usize];
     let mut words = vec![name.to_vec()];
     words.extend((0..numbers).map(|_| drawn_number(seed)));
     words
@@ -472,6 +489,7 @@ fn kinds() -> Vec<String> {
         "margin margin",
         "margin -",
         "unfold op",
+        "gap gap",
         "boards refused 9 0",
         "values refused 9 0",
         "margin refused 9 0",
@@ -480,10 +498,16 @@ fn kinds() -> Vec<String> {
         "margin refused 9 3",
     ];
     let mut all: Vec<String> = fixed.iter().map(|kind| kind.to_string()).collect();
-    for (name, most) in [("boards", 7), ("values", 7), ("margin", 7), ("unfold", 5)] {
+    for (name, most) in [
+        ("boards", 7),
+        ("values", 7),
+        ("margin", 7),
+        ("unfold", 5),
+        ("gap", 7),
+    ] {
         all.extend((1..=most).map(|number| format!("{} refused {}", name, number)));
     }
-    let early = ["fold", "boards", "values", "margin"];
+    let early = ["fold", "boards", "values", "margin", "gap"];
     all.extend(early.map(|name| format!("{} refused 10", name)));
     all
 }

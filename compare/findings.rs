@@ -10,12 +10,18 @@ use crate::library::Said;
 
 /// The functions that are compared, each with the numbers that have to be met: 0
 /// for success, and each refusal that the function can give. What `fold` writes of
-/// a refused table is counted by itself, and so are the yes and the no of a question.
-const FUNCTIONS: [(&str, &[usize]); 15] = [
+/// a refused table is counted by itself, and so are the yes and the no of a question,
+/// and gaps beside the period.
+const FUNCTIONS: [(&str, &[usize]); 20] = [
     ("judge", &[0, 1, 2, 3, 4, 5, 6, 7, 10]),
     ("judge_numbers", &[0, 1, 2, 3, 4, 5, 6, 7, 10]),
     ("write", &[0, 1, 2, 3, 4, 5, 6, 7, 8, 10]),
     ("period", &[0, 1, 2, 3, 4, 5, 6, 7, 10]),
+    ("gap", &[1, 2, 3, 4, 5, 6, 7, 10]),
+    ("gap, the period", &[0]),
+    ("gap, longer", &[0]),
+    ("gap, longer, p", &[0]),
+    ("gap, fixed", &[0]),
     ("boards_fit", &[1, 2, 3, 4, 5, 6, 7, 9, 10]),
     ("boards_fit, yes", &[0]),
     ("boards_fit, no", &[0]),

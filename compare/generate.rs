@@ -644,16 +644,35 @@ fn spread_table(seed: &mut Seed, shape: &Shape) -> Table {
     table
 }
 
+/// An accepted table with a tick near its end and one near its beginning on one board, each in one
+/// mode, with few turns: cycles that are just so many turns apart want the board, and no others.
+fn turned_table(seed: &mut Seed, shape: &Shape) -> Table {
+    let mut table = some_table(seed, shape);
+    table.follow = few_followers(seed, shape.modes);
+    for (place, op) in (0..).zip(&mut table.ops) {
+        let edge = seed.below(2).min(shape.p - 1);
+        let start = if place == 0 { shape.p - 1 - edge } else { edge };
+        *op = lone_op(seed, shape, place / 2, start);
+    }
+    mend(seed, shape, &mut table);
+    table
+}
+
 /// Any, or one of those that are rarely drawn otherwise.
 fn tiny_table(seed: &mut Seed) -> Table {
     let mut shape = tiny_shape(seed);
-    let kind = seed.below(10);
+    let kind = seed.below(11);
     if kind < 3 {
         return good_table(seed, &shape);
     }
     if kind == 9 {
         (shape.p, shape.ops) = (seed.between(6, 8), seed.between(2, 3));
         return spread_table(seed, &shape);
+    }
+    if kind == 10 {
+        (shape.p, shape.ops) = (seed.between(3, 8), seed.between(2, 3));
+        (shape.boards, shape.modes) = (2, seed.between(2, 4));
+        return turned_table(seed, &shape);
     }
     shape.cells = seed.between(1, 2);
     if kind < 5 {
@@ -881,6 +900,34 @@ pub fn no_cells(seed: &mut Seed) -> Table {
     either_table(seed, &shape)
 }
 
+/// A tick on its own half of a board: at the start of the table it reads cells, a tick later it writes two that no other
+/// writes.
+fn near_op(seed: &mut Seed, place: u64) -> Op {
+    let (start, pair) = (place % 2, place / 2);
+    let writes = if start == 0 { 0 } else { 3 << (2 * pair) };
+    let reads = if start == 0 { some_set(seed, 32, 4) } else { 0 };
+    Op {
+        start,
+        dur: 1,
+        hold: None,
+        boards: 1 << pair,
+        reads,
+        writes,
+        modes: mode_set(seed, 32),
+    }
+}
+
+/// Accepted, p 1000, every count at its highest, all operations in the first two ticks: the period and the gap are 1 or
+/// 2, so that there are as many distances as there can be at which cycles might meet.
+pub fn near(seed: &mut Seed) -> Table {
+    let shape = largest_shape(seed);
+    let ops = (0..shape.ops).map(|place| near_op(seed, place)).collect();
+    Table {
+        ops,
+        ..some_table(seed, &shape)
+    }
+}
+
 /// Accepted, of this length, with so many operations and modes; all else as in the largest ones, durations in
 /// proportion to the length. Where mending left operations out, another table is drawn.
 pub fn sized(seed: &mut Seed, p: u64, ops: u64, modes: u64) -> Table {
@@ -997,6 +1044,35 @@ pub fn ring_placed(seed: &mut Seed) -> Table {
         cells: 0,
         modes: RING,
         first: 1 << seed.below(RING),
+        follow: ring_followers(),
+        ops,
+        decider: None,
+    }
+}
+
+/// Accepted, without drawing: 32 modes each followed by the next one only, of which runs begin with the first. The last
+/// tick of p is one operation's, in the first mode, and the first tick another's, so many turns later, 1 to 32. They share
+/// a board; or the first writes a cell that the second reads.
+pub fn ring_apart(p: u64, turns: u64, boards: bool) -> Table {
+    let tick = |start, mode: u64, place: u64| Op {
+        start,
+        dur: 1,
+        hold: None,
+        boards: if boards { 1 } else { 1 << place },
+        reads: 0,
+        writes: 0,
+        modes: 1 << (mode % RING),
+    };
+    let mut ops = vec![tick(p - 1, 0, 0), tick(0, turns, 1)];
+    if !boards {
+        (ops[0].writes, ops[1].reads) = (1, 1);
+    }
+    Table {
+        len: p,
+        boards: 2,
+        cells: 1,
+        modes: RING,
+        first: 1,
         follow: ring_followers(),
         ops,
         decider: None,

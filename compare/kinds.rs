@@ -6,7 +6,7 @@ use crate::runs::{self, smallest, Run, Source, Wrong};
 
 /// What all runs of a table show.
 pub struct Shown<'a> {
-    table: &'a Table,
+    pub table: &'a Table,
     /// The operations that run in some cycle of some run.
     ran: u64,
     /// The cells that an operation takes from its own cycle, and those that it

@@ -6,6 +6,7 @@ use crate::holds::without_holds;
 use crate::judge::{bytes_of, has, Op, Table};
 use crate::kinds::{Shown, KINDS};
 use crate::library::{self, Said};
+use crate::pressed;
 use crate::runs::{enough_cycles, smallest, Run, Wrong};
 use crate::{simple, walks};
 
@@ -34,15 +35,26 @@ const GAINS: [&str; 3] = [
     "get a smaller period",
 ];
 
-#[derive(Default)]
 struct Found {
     words: [u64; WORDS.len()],
     kinds: [u64; KINDS.len()],
     gains: [u64; GAINS.len()],
+    pressed: pressed::Found,
     differences: u64,
 }
 
 impl Found {
+    /// Nothing so far.
+    fn new() -> Found {
+        Found {
+            words: [0; WORDS.len()],
+            kinds: [0; KINDS.len()],
+            gains: [0; GAINS.len()],
+            pressed: pressed::Found::new(MOST_PRINTED),
+            differences: 0,
+        }
+    }
+
     fn check(&mut self, good: bool, what: &str, q: u64, table: &Table) {
         self.differences += u64::from(!good);
         if !good && self.differences <= MOST_PRINTED {
@@ -78,12 +90,14 @@ impl Found {
         missed.for_each(|(_, name)| println!("no period at which {}", name));
         let missed = gains().filter(|(count, _)| **count == 0);
         missed.for_each(|(_, name)| println!("no tables with holds {}", name));
+        self.pressed.print();
     }
 
     /// No answer differs, and every kind of table and of period was met.
     fn is_good(&self) -> bool {
         let mut counts = self.kinds.iter().chain(&self.words).chain(&self.gains);
-        self.differences == 0 && counts.all(|count| *count > 0)
+        let all_met = counts.all(|count| *count > 0);
+        self.differences == 0 && all_met && self.pressed.is_good()
     }
 }
 
@@ -294,6 +308,7 @@ fn compare_table(seed: &mut Seed, table: &Table, longer: bool, found: &mut Found
     found.note_words(table, &shown.wrong);
     check_decider(table, &shown.wrong, found);
     compare_holds(seed, &shown, table, found);
+    pressed::compare_table(library::gap, seed, &shown, &mut found.pressed);
     for question in &questions(table, &shown.wrong) {
         compare_question(question, found);
     }
@@ -314,7 +329,7 @@ fn check_decider_of(run: &Run<'_>, q: u64, right: bool, found: &mut Found) {
 
 /// The library's period of a larger table is that by walks. At it and at a drawn period, both
 /// questions are answered as walks answer them, and a long drawn run says yes where the library
-/// does.
+/// does. It is right with gaps that are at least the library's.
 fn compare_long_run(seed: &mut Seed, found: &mut Found) {
     let table = generate::small(seed);
     let mut bytes = bytes_of(&table);
@@ -336,9 +351,10 @@ fn compare_long_run(seed: &mut Seed, found: &mut Found) {
         }
         check_decider_of(&run, q, both, found);
     }
+    pressed::compare_long_run(library::gap, seed, &run, period, &mut found.pressed);
 }
 
-fn drawn_run(seed: &mut Seed, table: &Table) -> Vec<u64> {
+pub fn drawn_run(seed: &mut Seed, table: &Table) -> Vec<u64> {
     let mut modes = vec![drawn_member(seed, table.first)];
     while modes.len() < LONG {
         let last = modes[modes.len() - 1];
@@ -348,7 +364,7 @@ fn drawn_run(seed: &mut Seed, table: &Table) -> Vec<u64> {
 }
 
 /// A member of a set that is not empty.
-fn drawn_member(seed: &mut Seed, set: u64) -> u64 {
+pub fn drawn_member(seed: &mut Seed, set: u64) -> u64 {
     let all: Vec<u64> = (0..64).filter(|member| has(set, *member)).collect();
     seed.one_of(&all)
 }
@@ -358,7 +374,7 @@ fn drawn_member(seed: &mut Seed, set: u64) -> u64 {
 /// So many drawn tables. True where no answer differs and every kind of table and of period
 /// was met.
 pub fn laid_command(count: u64, mut seed: Seed) -> bool {
-    let mut found = Found::default();
+    let mut found = Found::new();
     for turn in 0..count {
         let table = generate::tiny(&mut seed);
         compare_table(&mut seed, &table, turn % 16 == 0, &mut found);
@@ -369,7 +385,7 @@ pub fn laid_command(count: u64, mut seed: Seed) -> bool {
         "{} tables with all their runs, both questions at {} periods; {} answers differ",
         count,
         found.words.iter().sum::<u64>(),
-        found.differences
+        found.differences + found.pressed.differences()
     );
     found.is_good()
 }

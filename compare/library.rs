@@ -22,6 +22,8 @@ pub mod c {
 
         pub fn trevozhil_period(s: *const u8, s_len: usize, a: *mut u64, b: *mut u64) -> u32;
 
+        pub fn trevozhil_gap(s: *const u8, s_len: usize, a: *mut u64, b: *mut u64) -> u32;
+
         pub fn trevozhil_boards_fit(s: *const u8, s_len: usize, q: u64, a: *mut u64, b: *mut u64) -> u32;
 
         pub fn trevozhil_values_arrive(s: *const u8, s_len: usize, q: u64, a: *mut u64, b: *mut u64) -> u32;
@@ -100,6 +102,11 @@ pub fn write(n: &mut Numbers, out: &mut [u8]) -> Said {
 pub fn period(bytes: &mut [u8]) -> Said {
     let (s, s_len) = (bytes.as_mut_ptr(), bytes.len());
     said(|a, b| unsafe { c::trevozhil_period(s, s_len, a, b) })
+}
+
+pub fn gap(bytes: &mut [u8]) -> Said {
+    let (s, s_len) = (bytes.as_mut_ptr(), bytes.len());
+    said(|a, b| unsafe { c::trevozhil_gap(s, s_len, a, b) })
 }
 
 pub fn boards_fit(bytes: &mut [u8], q: u64) -> Said {

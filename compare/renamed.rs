@@ -2,7 +2,7 @@
 //! its operations in another order, or renaming its boards one to one, leaves the period and moves
 //! each folded row with its operation, the decider's number following its operation. Mode numbers
 //! renamed one to one, in the operations' mode sets, first modes and turns alike, also leave the
-//! period and rows."
+//! period and rows." So they leave the gap (No. 6).
 //!
 //! A drawn table, and the table that a drawn renaming makes of it, are both put to the library. What
 //! it says of the second is what it says of the first, moved. "Nothing is claimed for refused
@@ -250,10 +250,11 @@ pub struct Pair<'a> {
     pub renaming: &'a Renaming,
 }
 
-/// A pair, and the period of its first table as it is said.
+/// A pair, and the period and the gap of its first table as they are said.
 struct Met<'a> {
     pair: &'a Pair<'a>,
     period: u64,
+    gap: u64,
 }
 
 impl Met<'_> {
@@ -308,7 +309,7 @@ impl Met<'_> {
 /// A kind: its name, and whether a pair is of it.
 type Kind = (&'static str, fn(&Met<'_>) -> bool);
 
-const KINDS: [Kind; 24] = [
+const KINDS: [Kind; 27] = [
     ("all as it was", |met| met.changes() == [false; 3]),
     ("the operations alone", |met| {
         met.changes() == [true, false, false]
@@ -376,17 +377,27 @@ const KINDS: [Kind; 24] = [
     ("other names for modes, period above 1", |met| {
         met.has_other_modes() && met.period > 1
     }),
+    ("operations in another order, gap above the period", |met| {
+        met.has_other_order() && met.gap > met.period
+    }),
+    ("other names for boards, gap above the period", |met| {
+        met.has_other_boards() && met.gap > met.period
+    }),
+    ("other names for modes, gap above the period", |met| {
+        met.has_other_modes() && met.gap > met.period
+    }),
 ];
 
 // ---- kinds of answers ---------------------------------------------------
 
 /// All answers that there are about accepted tables, i and j being operations.
-const ANSWERS: [&str; 18] = [
+const ANSWERS: [&str; 19] = [
     "judge, good",
     "judge_numbers, good",
     "write, good",
     "write, ROOM",
     "period, good",
+    "gap, good",
     "plan, good",
     "plan, ROOM",
     "boards_fit, yes",
@@ -566,6 +577,7 @@ pub struct Functions {
     pub judge_numbers: fn(&mut Numbers) -> Said,
     pub write: fn(&mut Numbers, &mut [u8]) -> Said,
     pub period: fn(&mut [u8]) -> Said,
+    pub gap: fn(&mut [u8]) -> Said,
     pub boards_fit: fn(&mut [u8], u64) -> Said,
     pub values_arrive: fn(&mut [u8], u64) -> Said,
     pub plan: fn(&mut [u8], &mut [u8]) -> Said,
@@ -577,6 +589,7 @@ const LIBRARY: Functions = Functions {
     judge_numbers: library::judge_numbers,
     write: library::write,
     period: library::period,
+    gap: library::gap,
     boards_fit: library::boards_fit,
     values_arrive: library::values_arrive,
     plan: library::plan,
@@ -706,10 +719,11 @@ impl Asking<'_> {
         self.note("write", &hex(before), &seen, &due);
     }
 
-    /// All questions that have an answer for accepted tables; the period of the first one.
-    fn ask_all(&mut self, seed: &mut Seed) -> u64 {
+    /// All questions that have an answer for accepted tables; the period and the gap of the first one.
+    fn ask_all(&mut self, seed: &mut Seed) -> (u64, u64) {
         self.ask("judge", self.functions.judge);
         let period = self.ask("period", self.functions.period).a;
+        let gap = self.ask("gap", self.functions.gap).a;
         let (p, ops) = (self.pair.table.len, self.pair.table.ops.len());
         for q in drawn_periods(seed, p, period) {
             self.ask_at(q);
@@ -725,7 +739,7 @@ impl Asking<'_> {
         let length = drawn_rooms(seed, self.bytes[0].len())[1];
         let before = memory_for(seed, length);
         self.ask_numbers(&before);
-        period
+        (period, gap)
     }
 }
 
@@ -771,8 +785,8 @@ pub fn compare_pair(functions: &Functions, pair: &Pair<'_>, seed: &mut Seed, fou
         bytes: [bytes_of(pair.table), bytes_of(pair.other)],
         found,
     };
-    let period = asking.ask_all(seed);
-    found.note_kinds(&Met { pair, period });
+    let (period, gap) = asking.ask_all(seed);
+    found.note_kinds(&Met { pair, period, gap });
     if !pair.renaming.is_one_to_one(pair.table) && found.differs() {
         println!("not one to one: {:?}", pair.renaming);
     }

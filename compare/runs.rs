@@ -1,5 +1,6 @@
 //! Runs laid out one by one, as the definitions have them (document 01, "Runs and right periods"), and what is said of
-//! their deciders and of their holds (document 02, No. 4 and 9).
+//! their deciders and of their holds (document 02, No. 4 and 9). Their cycles start a period apart, or at any dates
+//! (No. 6).
 //!
 //! For small tables. Nothing here knows of reached modes, of last writers or of walks.
 
@@ -37,31 +38,50 @@ fn instances(table: &Table, modes: &[u64]) -> Vec<Instance> {
     all
 }
 
-/// "each operation at t + k·q"; the plain run has k·p.
-fn start_of(table: &Table, who: Instance, q: u64) -> u64 {
-    table.ops[who.op].start + who.cycle * q
+/// Where each cycle of a run starts.
+pub trait Starts: Copy {
+    fn of(self, cycle: u64) -> u64;
 }
 
-/// Where an instance ends when cycle k starts at k·q.
-fn end_of(table: &Table, who: Instance, q: u64) -> u64 {
-    start_of(table, who, q) + table.ops[who.op].dur
+/// "each operation at t + k·q": cycle k starts at k·q; in the plain run, at k·p.
+impl Starts for u64 {
+    fn of(self, cycle: u64) -> u64 {
+        cycle * self
+    }
+}
+
+/// "the cycle starts moved accordingly": each cycle at a date of its own.
+impl Starts for &[u64] {
+    fn of(self, cycle: u64) -> u64 {
+        self[cycle as usize]
+    }
+}
+
+/// An operation of a cycle starts t ticks after the cycle.
+fn start_of(table: &Table, who: Instance, starts: impl Starts) -> u64 {
+    table.ops[who.op].start + starts.of(who.cycle)
+}
+
+/// Where an instance ends when the cycles start so.
+fn end_of(table: &Table, who: Instance, starts: impl Starts) -> u64 {
+    start_of(table, who, starts) + table.ops[who.op].dur
 }
 
 /// Where its boards are free again: "Boards are held until start + duration + hold".
-fn free_at(table: &Table, who: Instance, q: u64) -> u64 {
-    end_of(table, who, q) + table.ops[who.op].hold.unwrap_or(0)
+fn free_at(table: &Table, who: Instance, starts: impl Starts) -> u64 {
+    end_of(table, who, starts) + table.ops[who.op].hold.unwrap_or(0)
 }
 
 /// Both hold their boards at one moment.
-fn held_at_once(table: &Table, one: Instance, other: Instance, q: u64) -> bool {
-    start_of(table, one, q) < free_at(table, other, q)
-        && start_of(table, other, q) < free_at(table, one, q)
+fn held_at_once(table: &Table, one: Instance, other: Instance, starts: impl Starts) -> bool {
+    start_of(table, one, starts) < free_at(table, other, starts)
+        && start_of(table, other, starts) < free_at(table, one, starts)
 }
 
 /// Both would hold them at one moment if neither had a hold.
-fn overlap_at(table: &Table, one: Instance, other: Instance, q: u64) -> bool {
-    start_of(table, one, q) < end_of(table, other, q)
-        && start_of(table, other, q) < end_of(table, one, q)
+fn overlap_at(table: &Table, one: Instance, other: Instance, starts: impl Starts) -> bool {
+    start_of(table, one, starts) < end_of(table, other, starts)
+        && start_of(table, other, starts) < end_of(table, one, starts)
 }
 
 /// "two different running instances that share a board", each pair once
@@ -80,18 +100,20 @@ fn pairs_on_a_board(table: &Table, all: &[Instance]) -> Vec<(Instance, Instance)
 // ---- values -------------------------------------------------------------
 
 /// "the last write of that cell that ended at or before the reader's start; with
-/// none, the initial value", among the writes of all cycles, when cycle k starts
-/// at k·q.
+/// none, the initial value", among the writes of all cycles, when these start so.
 fn last_ended(
     table: &Table,
     all: &[Instance],
     reader: Instance,
     cell: u64,
-    q: u64,
+    starts: impl Starts,
 ) -> Option<Instance> {
     let writes = all.iter().filter(|who| has(table.ops[who.op].writes, cell));
-    let ended = writes.filter(|who| end_of(table, **who, q) <= start_of(table, reader, q));
-    ended.max_by_key(|who| end_of(table, **who, q)).copied()
+    let ended =
+        writes.filter(|who| end_of(table, **who, starts) <= start_of(table, reader, starts));
+    ended
+        .max_by_key(|who| end_of(table, **who, starts))
+        .copied()
 }
 
 /// The write, as its operation and its cycle, whose value an operation of a cycle
@@ -168,39 +190,52 @@ impl<'a> Run<'a> {
     /// "no two different running instances that share a board overlap, whichever
     /// cycle starts first, the same operation in two cycles included"; of those
     /// pairs that count.
-    fn has_right_boards(&self, q: u64, counts: fn(Instance, Instance) -> bool) -> bool {
-        let meet = |one, other| counts(one, other) && held_at_once(self.table, one, other, q);
+    fn has_right_boards(
+        &self,
+        starts: impl Starts,
+        counts: fn(Instance, Instance) -> bool,
+    ) -> bool {
+        let meet = |one, other| counts(one, other) && held_at_once(self.table, one, other, starts);
         !self.pairs.iter().any(|(one, other)| meet(*one, *other))
     }
 
     /// The same of every pair, with all holds taken away.
-    fn has_right_bare_boards(&self, q: u64) -> bool {
-        let meet = |one, other| overlap_at(self.table, one, other, q);
+    fn has_right_bare_boards(&self, starts: impl Starts) -> bool {
+        let meet = |one, other| overlap_at(self.table, one, other, starts);
         !self.pairs.iter().any(|(one, other)| meet(*one, *other))
     }
 
     /// "each reader's source, as the plain run has it, has ended at or before the
     /// reader's start"; of those that count.
-    fn has_right_values(&self, q: u64, counts: fn(Instance, Instance) -> bool) -> bool {
-        self.sources.iter().all(|Source { write, reader, .. }| {
-            let ended = end_of(self.table, *write, q) <= start_of(self.table, *reader, q);
-            !counts(*write, *reader) || ended
-        })
+    fn has_right_values(
+        &self,
+        starts: impl Starts,
+        counts: fn(Instance, Instance) -> bool,
+    ) -> bool {
+        let ended = |write, reader| self.is_over(write, reader, starts);
+        let mut sources = self.sources.iter();
+        sources
+            .all(|Source { write, reader, .. }| !counts(*write, *reader) || ended(*write, *reader))
     }
 
     /// Of this run, with every pair: the boards fit.
-    pub fn boards_fit(&self, q: u64) -> bool {
-        self.has_right_boards(q, any)
+    pub fn boards_fit(&self, starts: impl Starts) -> bool {
+        self.has_right_boards(starts, any)
     }
 
     /// Of this run, with every source: the values arrive.
-    pub fn values_arrive(&self, q: u64) -> bool {
-        self.has_right_values(q, any)
+    pub fn values_arrive(&self, starts: impl Starts) -> bool {
+        self.has_right_values(starts, any)
+    }
+
+    /// How many gaps there are from one cycle to the next.
+    pub fn gaps(&self) -> usize {
+        self.cycles - 1
     }
 
     /// One instance has ended when another starts.
-    fn is_over(&self, one: Instance, other: Instance, q: u64) -> bool {
-        end_of(self.table, one, q) <= start_of(self.table, other, q)
+    fn is_over(&self, one: Instance, other: Instance, starts: impl Starts) -> bool {
+        end_of(self.table, one, starts) <= start_of(self.table, other, starts)
     }
 
     /// Each cycle has a decider, and "the decider of one cycle never starts before that of
@@ -262,6 +297,10 @@ fn near(one: Instance, other: Instance) -> bool {
 ///
 /// Cycles put behind a run that is not right leave it so, for the same reasons, and
 /// every mode has a follower: the runs of just this length are enough.
+///
+/// With gaps that are each at least g it is the same, with g for q: cycle k + n starts
+/// at least n·g after cycle k. The gaps from cycle k to k + n stay; those before it may
+/// be any.
 pub fn enough_cycles(table: &Table) -> usize {
     (table.modes + table.len - 1) as usize
 }

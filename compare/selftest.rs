@@ -2,21 +2,26 @@
 //! What the tables of `examples/` fold to stands in their comments and is checked there.
 
 use crate::against::Margin;
-use crate::answers::{boards_fit, fold, margin, plan, reply_bytes, start_bytes, text};
+use crate::answers::{boards_fit, fold, gap, margin, plan, reply_bytes, start_bytes, text};
 use crate::answers::{unfold, values_arrive, LONGEST_PLAIN, LONGEST_REPLY, LONGEST_STARTS};
 use crate::answers::{LONGEST_TABLE, LONGEST_TEXT};
 use crate::asking::lines_are_as_said;
 use crate::blamed;
 use crate::examples::K1;
 use crate::findings::{said_of, NAMES};
+use crate::gaps;
 use crate::generate::{self, Seed};
 use crate::hex::bytes_in;
+use crate::holds::without_holds;
 use crate::judge::{bytes_of, bytes_of_numbers, judge, judge_numbers, numbers_of, push_number};
 use crate::judge::{put, read_table, write_table, Numbers, Op, Refusal, Table};
+use crate::kinds::Shown;
+use crate::laid;
 use crate::library::Said;
 use crate::picture::{escaped, svg, tick, Panel, Point};
+use crate::pressed::{self, Ask};
 use crate::renamed::{compare_pair, drawn_renaming, Found, Functions, Pair, Renaming};
-use crate::runs::{taken_from, Run};
+use crate::runs::{enough_cycles, taken_from, Run};
 use crate::stack;
 use crate::times::{readable, timed, worked, Times, ROUNDS};
 use crate::walks::{self, period, right};
@@ -46,6 +51,7 @@ impl Tally {
         self.check(name, margin(bytes, 99, 99, 0, 0).map(|_| ()) == expected);
         self.check(name, boards_fit(bytes, 0).map(|_| ()) == expected);
         self.check(name, values_arrive(bytes, 0).map(|_| ()) == expected);
+        self.check(name, gap(bytes).map(|_| ()) == expected);
         let line = format!("refused {} {} {}\n", figures.0, figures.1, figures.2);
         self.check(name, text(bytes) == line);
     }
@@ -1357,6 +1363,11 @@ fn words(tally: &mut Tally) {
     let k7 = from_hex(include_str!("../examples/k07.hex"));
     says(tally, &k7, "boards 2", "yes\n");
     says(tally, &k7, "values 2", "no\n");
+    says(tally, &k7, "gap", "gap 3\n");
+    says(tally, &k1_held(), "gap", "gap 4\n");
+    says(tally, &k1_decided(), "gap", "gap 3\n");
+    says(tally, &k1_times(2), "gap", "refused 6 0 1\n");
+    says(tally, &[], "gap", "refused 2 0 0\n");
     says(tally, &k7, "margin 0 1 2 2", "margin -2\n");
     says(tally, &k7, "margin 0 1 2 3", "margin 0\n");
     says(tally, &k7, "margin 1 0 1000 6", "margin 6003\n");
@@ -1639,11 +1650,16 @@ const PLANNER: Functions = Functions {
     judge_numbers: |n| said_of(judge_numbers(n).map(|_| 0)),
     write: |n, out| said_of(write_table(n, out)),
     period: |s| said_of(judge(s).map(|table| period(&table) as usize)),
+    gap: planned_gap,
     boards_fit: |s, q| said_of(boards_fit(s, q).map(usize::from)),
     values_arrive: |s, q| said_of(values_arrive(s, q).map(usize::from)),
     plan: |s, out| said_of(plan(s, out)),
     margin: planned_margin,
 };
+
+fn planned_gap(s: &mut [u8]) -> Said {
+    said_of(gap(s).map(|gap| gap as usize))
+}
 
 fn planned_margin(s: &mut [u8], asked: Margin, places: &mut [i32; 3]) -> Said {
     let (i, j, n, q) = asked;
@@ -1823,8 +1839,13 @@ fn forget_boards(table: &mut Table) {
     table.ops.iter_mut().for_each(|op| op.boards &= 15);
 }
 
+/// The gap of the table as it is changed.
+fn changed_gap(s: &[u8], change: fn(&mut Table)) -> Said {
+    said_of(changed_table(s, change).map(|table| gaps::gap(&table) as usize))
+}
+
 /// Libraries with a fault each: the planner, and one function in the place of its own.
-const FAULTY: [(&str, fn(&mut Functions)); 15] = [
+const FAULTY: [(&str, fn(&mut Functions)); 20] = [
     ("rows by their starts", |it| it.plan = plan_sorted),
     ("a short buffer is written to", |it| it.plan = plan_cut),
     ("a byte behind the reply", |it| it.plan = plan_long),
@@ -1854,6 +1875,25 @@ const FAULTY: [(&str, fn(&mut Functions)); 15] = [
     }),
     ("operation 0 holds no board", |it| {
         it.period = |s| changed_period(s, |table| table.ops[0].modes = 0)
+    }),
+    ("the gap goes by the count of boards", |it| {
+        it.gap = |s| said_of(judge(s).map(|it| gaps::gap(&it).max(it.boards + 2) as usize))
+    }),
+    ("mode 0 is always a first mode, for the gap", |it| {
+        it.gap = |s| changed_gap(s, |table| table.first |= 1)
+    }),
+    ("every mode follows mode 0, for the gap", |it| {
+        it.gap = |s| changed_gap(s, |table| table.follow[0] = 7)
+    }),
+    ("operation 0 holds no board, for the gap", |it| {
+        it.gap = |s| changed_gap(s, |table| table.ops[0].modes = 0)
+    }),
+    ("the gap changes its input", |it| {
+        it.gap = |s| {
+            let said = planned_gap(s);
+            s[0] ^= 1;
+            said
+        }
     }),
     ("boards are forgotten from 4 on", |it| {
         it.boards_fit = |s, q| changed_at(s, q, forget_boards, walks::boards_fit)
@@ -1895,6 +1935,259 @@ fn faulty_libraries(tally: &mut Tally) {
         let differ = differences(&functions, &table, &other, &renaming);
         tally.check(name, differ > 0);
     }
+}
+
+// ---- cycles started by a button -----------------------------------------
+
+/// The bench tables, and their gaps.
+const BENCH_GAPS: [(&str, u64); 9] = [
+    (K1, 3),
+    (include_str!("../examples/k02.hex"), 2),
+    (include_str!("../examples/k03.hex"), 4),
+    (include_str!("../examples/k04.hex"), 4),
+    (include_str!("../examples/k05.hex"), 2),
+    (include_str!("../examples/k06.hex"), 4),
+    (include_str!("../examples/k07.hex"), 3),
+    (include_str!("../examples/k08.hex"), 3),
+    (include_str!("../examples/k09.hex"), 1),
+];
+
+/// A table of p ticks and so many modes in a ring, the first of them 0, with steps of one tick on one board: where each
+/// starts, and its modes.
+fn ring_of(p: u64, modes: u64, ticks: &[(u64, u64)]) -> Table {
+    let op = |(start, modes): &(u64, u64)| Op {
+        start: *start,
+        dur: 1,
+        hold: None,
+        boards: 1,
+        reads: 0,
+        writes: 0,
+        modes: *modes,
+    };
+    Table {
+        len: p,
+        boards: 1,
+        cells: 0,
+        modes,
+        first: 1,
+        follow: (0..modes).map(|mode| 1 << ((mode + 1) % modes)).collect(),
+        ops: ticks.iter().map(op).collect(),
+        decider: None,
+    }
+}
+
+/// Periods and gaps by hand. What is wanted again n turns later, from the last tick of p to the first, asks for p / n,
+/// rounded up. A tick at the start and one at the end: any delay of p - 1 is wrong, by one turn. In modes
+/// that alternate the first of two steps is met an odd number of turns after the second, so that at a period of 1 it is
+/// not met 2 ticks later, and by a button it is. In a ring of three the board is wanted again two turns later, 3 ticks
+/// after: no two equal gaps are that, but 1 and 2 are; and with equal gaps every period is right.
+fn gaps_by_hand(tally: &mut Tally) {
+    for (number, (text, due)) in (1..).zip(BENCH_GAPS) {
+        tally.check(
+            &format!("gap of K{}", number),
+            gap(&from_hex(text)) == Ok(due),
+        );
+    }
+    for (p, turns) in [(1000, 1), (1000, 3), (999, 32), (97, 32), (2, 5)] {
+        for boards in [true, false] {
+            let table = generate::ring_apart(p, turns, boards);
+            tally.check(
+                "ring, accepted",
+                judge(&bytes_of(&table)).as_ref() == Ok(&table),
+            );
+            tally.check("ring, gap", gaps::gap(&table) == (p + turns - 1) / turns);
+        }
+    }
+    for (table, due) in [
+        (ring_of(1000, 1, &[(0, 1), (999, 1)]), (2, 1000)),
+        (ring_of(3, 2, &[(0, 1), (2, 2)]), (1, 3)),
+        (ring_of(4, 3, &[(3, 1), (0, 4)]), (1, 2)),
+        (ring_of(4, 3, &[(3, 2), (0, 1)]), (1, 2)),
+        (ring_of(4, 3, &[(3, 1), (0, 2)]), (1, 4)),
+        (ring_of(5, 1, &[(0, 1)]), (1, 1)),
+    ] {
+        let said = (period(&table), gaps::gap(&table));
+        tally.check(&format!("period and gap {:?}", due), said == due);
+    }
+}
+
+/// Runs of K4, which wants its board at the first and at the last of 4 ticks, at dates of their own: two starts may not
+/// be 3 ticks apart. And a turn from cold to warm, where the temperature is there 100 ticks after the cold start.
+fn runs_at_dates(tally: &mut Tally) {
+    let k4 = judge(&from_hex(include_str!("../examples/k04.hex"))).expect("it is accepted");
+    for (starts, good) in [
+        (&[0, 1, 2][..], true),
+        (&[0, 1, 3], false),
+        (&[0, 2, 3], false),
+        (&[0, 2, 4], true),
+        (&[0, 2, 5], false),
+        (&[0, 3, 6], false),
+        (&[0, 4, 8], true),
+        (&[0, 4, 7], false),
+        (&[0, 9, 90], true),
+    ] {
+        let run = Run::new(&k4, &[0; 3]);
+        tally.check("boards at dates", run.boards_fit(starts) == good);
+    }
+    let every = from_hex(include_str!("../examples/analyzer-cold-to-warm.hex"));
+    let table = judge(&every).expect("the example is accepted");
+    for (starts, good) in [
+        (&[0, 200, 300][..], true),
+        (&[0, 200, 299], false),
+        (&[0, 90, 190], true),
+        (&[0, 900, 999], false),
+    ] {
+        let run = Run::new(&table, &[COLD, COLD, WARM]);
+        tally.check("values at dates", run.values_arrive(starts) == good);
+    }
+}
+
+/// Starts that are a period apart are as right as that period.
+fn runs_at_periods(tally: &mut Tally, seed: &mut Seed) {
+    let table = generate::tiny(seed);
+    let mut modes = vec![laid::drawn_member(seed, table.first)];
+    for cycle in 0..6 {
+        modes.push(laid::drawn_member(
+            seed,
+            table.follow[modes[cycle] as usize],
+        ));
+    }
+    let run = Run::new(&table, &modes);
+    for q in 1..=table.len {
+        let starts: Vec<u64> = (0..7).map(|cycle| cycle * q).collect();
+        let same = run.boards_fit(&starts[..]) == run.boards_fit(q)
+            && run.values_arrive(&starts[..]) == run.values_arrive(q);
+        tally.check("dates a period apart", same);
+    }
+}
+
+/// From the longest wrong delay of each distance, none of which is left out: the smallest gap with which n·gap is above
+/// it for each n. It is not below the period.
+fn gap_by_delays(tally: &mut Tally, seed: &mut Seed) {
+    let table = generate::small(seed);
+    let delays = gaps::longest_wrong(&table, table.len as usize);
+    let serves = |gap: &u64| (1..).zip(&delays).all(|(n, delay)| n * gap > *delay);
+    let smallest = (1..=table.len).find(serves);
+    tally.check("gap by delays", smallest == Some(gaps::gap(&table)));
+    tally.check("gap from the period on", smallest >= Some(period(&table)));
+}
+
+/// The distances with their longest wrong delays.
+fn delays_of(table: &Table) -> impl Iterator<Item = (u64, u64)> {
+    let delays = gaps::longest_wrong(table, table.len as usize);
+    (1..).zip(delays)
+}
+
+/// A quotient rounded down in the place of one rounded up.
+fn rounded_down(table: &Table) -> u64 {
+    let wrong = delays_of(table).filter(|(_, delay)| *delay > 0);
+    let asked = wrong.map(|(n, delay)| (delay + 1) / n);
+    asked.max().unwrap_or(0).max(1)
+}
+
+/// What the largest distance asks for at which anything is wrong, in the place of the smallest.
+fn largest_distance(table: &Table) -> u64 {
+    let wrong = delays_of(table).filter(|(n, delay)| delay >= n);
+    wrong.last().map_or(1, |(n, delay)| delay / n + 1)
+}
+
+/// The smallest period from which on all are right, as if gaps were always equal.
+fn all_right_from(table: &Table) -> u64 {
+    let right = (1..=table.len).rev().take_while(|q| right(table, *q));
+    right.last().expect("p is right")
+}
+
+/// An answer by a number for each accepted table.
+fn said_by(s: &[u8], gap: fn(&Table) -> u64) -> Said {
+    said_of(judge(s).map(|table| gap(&table) as usize))
+}
+
+/// The gap of the table as if its steps lasted until their boards are let go.
+fn longer_steps(table: &mut Table) {
+    for op in &mut table.ops {
+        op.dur += op.hold.take().unwrap_or(0);
+    }
+}
+
+/// Gaps with a fault each.
+const FAULTY_GAPS: [(&str, Ask); 17] = [
+    ("the period for the gap", |s| said_by(s, period)),
+    ("all right from it on, at equal gaps", |s| {
+        said_by(s, all_right_from)
+    }),
+    ("a quotient rounded down", |s| said_by(s, rounded_down)),
+    ("the end for the time boards are let go", |s| {
+        said_by(s, |table| gaps::gap(&without_holds(table)))
+    }),
+    ("the time boards are let go for the end", |s| {
+        changed_gap(s, longer_steps)
+    }),
+    ("values left out", |s| {
+        changed_gap(s, |table| table.ops.iter_mut().for_each(|op| op.reads = 0))
+    }),
+    ("boards left out", |s| {
+        changed_gap(s, |table| {
+            let ops = table.ops.iter_mut().enumerate();
+            ops.for_each(|(place, op)| op.boards = 1 << place)
+        })
+    }),
+    ("the largest distance for the smallest", |s| {
+        said_by(s, largest_distance)
+    }),
+    ("cycles one apart only", |s| {
+        said_by(s, |table| gaps::longest_wrong(table, 1)[0] + 1)
+    }),
+    ("unreached modes counted", |s| {
+        changed_gap(s, |table| table.first = (1 << table.modes) - 1)
+    }),
+    ("first modes only", |s| {
+        changed_gap(s, |table| {
+            table.follow = (0..table.modes).map(|mode| 1 << mode).collect()
+        })
+    }),
+    ("one more", |s| {
+        said_by(s, |table| table.len.min(gaps::gap(table) + 1))
+    }),
+    ("one less", |s| {
+        said_by(s, |table| gaps::gap(table).max(2) - 1)
+    }),
+    ("always p", |s| said_by(s, |table| table.len)),
+    ("always 1", |s| said_by(s, |_| 1)),
+    ("always 0", |s| said_by(s, |_| 0)),
+    ("tables refused", |_| said_of(Err(refusal_of((10, 0, 0))))),
+];
+
+/// How many tables are drawn at most until a fault is told.
+const MOST_DRAWN: u64 = 1000;
+
+/// Compares the gap of a drawn table and its runs.
+fn pressed_once(ask: Ask, seed: &mut Seed, found: &mut pressed::Found) {
+    let table = generate::tiny(seed);
+    let enough = enough_cycles(&table);
+    let shown = Shown::by_runs(&table, enough..=enough);
+    pressed::compare_table(ask, seed, &shown, found);
+}
+
+/// Each fault is told by the planner, and by runs that are laid out.
+fn faulty_gaps(tally: &mut Tally) {
+    for (name, ask) in FAULTY_GAPS {
+        let (mut seed, mut found) = (Seed::new(6), pressed::Found::new(0));
+        let mut drawn = 0;
+        while drawn < MOST_DRAWN && (found.by_planner == 0 || found.by_runs == 0) {
+            pressed_once(ask, &mut seed, &mut found);
+            drawn += 1;
+        }
+        tally.check(&format!("{}, by the planner", name), found.by_planner > 0);
+        tally.check(&format!("{}, by runs", name), found.by_runs > 0);
+    }
+    tally.check("nothing pressed", !pressed::Found::new(0).is_good());
+}
+
+/// Nothing differs where all is well.
+fn pressed_well(tally: &mut Tally, seed: &mut Seed) {
+    let mut found = pressed::Found::new(5);
+    pressed_once(planned_gap, seed, &mut found);
+    tally.check("pressed well", found.differences() == 0);
 }
 
 // ---- what is measured with ----------------------------------------------
@@ -1956,6 +2249,15 @@ fn measured_boards(tally: &mut Tally, seed: &mut Seed) {
     check_counts(tally, "no cells", &table, [1000, 16, 0, 32, 32]);
 }
 
+/// Where all is near, both the period and the gap are 1 or 2, and cells are used.
+fn measured_near(tally: &mut Tally, seed: &mut Seed) {
+    let table = generate::near(seed);
+    check_counts(tally, "near", &table, [1000, 16, 32, 32, 32]);
+    tally.check("near cells", !uses_no_cell(&table));
+    tally.check("near period", period(&table) <= 2);
+    tally.check("near gap", gaps::gap(&table) <= 2);
+}
+
 /// The tables for growth have the size that is asked for.
 fn measured_sizes(tally: &mut Tally, seed: &mut Seed) {
     for (p, ops, modes) in [(125, 32, 32), (1000, 4, 32), (1000, 32, 1)] {
@@ -2013,6 +2315,8 @@ fn times(tally: &mut Tally) {
     tally.check("worst", odd.worst() == 8.0 && even.worst() == 8.0);
     let ratio = even.least_ratio(&times_of(&[1.0, 4.0, 1.0, 8.0]));
     tally.check("least ratio", ratio == 0.5);
+    let ratio = even.most_ratio(&times_of(&[1.0, 4.0, 1.0, 8.0]));
+    tally.check("most ratio", ratio == 3.0);
     for (seconds, said) in [
         (0.000_000_25, "0.25 µs"),
         (0.000_023_44, "23.4 µs"),
@@ -2056,7 +2360,7 @@ fn little_stack(tally: &mut Tally) {
 }
 
 /// The checks that draw nothing.
-const FIXED: [fn(&mut Tally); 45] = [
+const FIXED: [fn(&mut Tally); 48] = [
     hexadecimal,
     bench_k1,
     bench_answers,
@@ -2099,6 +2403,9 @@ const FIXED: [fn(&mut Tally); 45] = [
     renamed_badly,
     not_one_to_one,
     faulty_libraries,
+    gaps_by_hand,
+    runs_at_dates,
+    faulty_gaps,
     timing,
     times,
     pictures,
@@ -2113,14 +2420,18 @@ fn drawn(tally: &mut Tally, seed: &mut Seed) {
         keeps_bytes(tally, seed);
         no_more_bytes(tally, seed);
         renamed_and_back(tally, seed);
+        runs_at_periods(tally, seed);
+        gap_by_delays(tally, seed);
     }
     for _ in 0..50 {
         within_sizes(tally, seed);
         renamed_well(tally, seed);
+        pressed_well(tally, seed);
     }
     for _ in 0..5 {
         measured_rings(tally, seed);
         measured_boards(tally, seed);
+        measured_near(tally, seed);
         measured_sizes(tally, seed);
     }
 }

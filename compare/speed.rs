@@ -1,11 +1,13 @@
-//! The time of the library's period search, beside that of a simple planner, on the same tables in the same program.
+//! The time of the library's period search, beside that of a simple planner and that of the library's gap, on the same
+//! tables in the same program. On the largest tables the gap may take no longer than the period.
 //!
 //! All timing comes before the first thread: under an emulator every access is slower once a program has started one. The
 //! test with little stack, which needs threads, comes last.
 
+use crate::gaps;
 use crate::generate::{self, Seed};
 use crate::judge::{bytes_of, Op, Table};
-use crate::library;
+use crate::library::{self, Said};
 use crate::options;
 use crate::picture::{self, Panel, Point};
 use crate::simple;
@@ -55,20 +57,20 @@ fn asked(args: &[String]) -> Option<Asked> {
     })
 }
 
-// ---- both on the same tables --------------------------------------------
+// ---- all on the same tables ---------------------------------------------
 
-/// What both took on some tables, and what they answered.
+/// What both took for the period of some tables, the library for the gap, and what was answered.
 #[derive(Default)]
 struct Measured {
     library: Times,
+    gap: Times,
     simple: Times,
     periods: Vec<u64>,
     differ: bool,
 }
 
-/// The library's period of a table's bytes; 0, which no period is, where they are refused.
-fn library_period(bytes: &mut [u8]) -> u64 {
-    let said = library::period(bytes);
+/// The period or the gap that is said; 0, which neither is, where the table is refused.
+fn answer(said: Said) -> u64 {
     if said.number == 0 {
         said.a
     } else {
@@ -76,18 +78,20 @@ fn library_period(bytes: &mut [u8]) -> u64 {
     }
 }
 
-/// Both on each table in turn. The library is handed bytes, which it also reads and judges; the simple planner is handed
-/// what they say.
+/// All on each table in turn. The library is handed bytes, which it also reads and judges; the simple planner is handed
+/// what they say. The gap is held to that of this folder's planner, which is not timed.
 fn measure(tables: &[Table]) -> Measured {
     let mut measured = Measured::default();
     for table in tables {
         let mut bytes = bytes_of(table);
-        let (q, seconds) = timed(|| library_period(&mut bytes));
+        let (q, seconds) = timed(|| answer(library::period(&mut bytes)));
         measured.library.push(seconds);
+        let (gap, seconds) = timed(|| answer(library::gap(&mut bytes)));
+        measured.gap.push(seconds);
         let (simple_q, seconds) = timed(|| simple::period(table));
         measured.simple.push(seconds);
         measured.periods.push(q);
-        measured.differ |= q != simple_q;
+        measured.differ |= q != simple_q || gap != gaps::gap(table);
     }
     measured
 }
@@ -105,12 +109,12 @@ impl Measured {
     }
 
     fn print(&self) {
-        let (quick, slow) = (&self.library, &self.simple);
+        let (quick, slow, gap) = (&self.library, &self.simple, &self.gap);
         println!(
             "            {:>10} {:>10} {:>10}",
             "mean", "median", "worst"
         );
-        for (name, times) in [("library", quick), ("simple", slow)] {
+        for (name, times) in [("library", quick), ("its gap", gap), ("simple", slow)] {
             let all = [times.mean(), times.median(), times.worst()].map(readable);
             println!("  {:<9} {:>10} {:>10} {:>10}", name, all[0], all[1], all[2]);
         }
@@ -119,6 +123,12 @@ impl Measured {
             ratio(slow.mean() / quick.mean()),
             ratio(slow.median() / quick.median()),
             ratio(slow.least_ratio(quick)),
+        );
+        println!(
+            "  gap / period: {} of the means, {} of the worst, {} on the table where it is most",
+            ratio(gap.mean() / quick.mean()),
+            ratio(gap.worst() / quick.worst()),
+            ratio(gap.most_ratio(quick)),
         );
     }
 
@@ -137,7 +147,7 @@ impl Measured {
 type Family = (&'static str, &'static str, fn(&mut Seed) -> Table);
 
 /// What is said of a family at its generator is longer.
-const FAMILIES: [Family; 5] = [
+const FAMILIES: [Family; 6] = [
     (
         "largest",
         "p 1000, 32 operations, 32 modes, 16 boards, 32 cells (generate::largest)",
@@ -163,20 +173,25 @@ const FAMILIES: [Family; 5] = [
         "least ratio of those tried: small periods over a ring of 32 modes, 32 operations placed (generate::ring_placed)",
         generate::ring_placed,
     ),
+    (
+        "near",
+        "most distances: periods and gaps of 1 or 2, 32 operations in the first two ticks (generate::near)",
+        generate::near,
+    ),
 ];
 
-/// One family, and whether both agree on it.
-fn family(asked: &Asked, (name, what, draw): Family) -> bool {
+/// One family.
+fn family(asked: &Asked, (name, what, draw): Family) -> Measured {
     let measured = measure(&asked.tables(asked.count, draw));
     println!("\n{}: {}", name, what);
     println!("  {} tables, seed {}", asked.count, asked.seed);
     measured.print_periods();
     measured.print();
-    !measured.differ
+    measured
 }
 
 /// The one table that is not drawn.
-fn hard() -> bool {
+fn hard() -> Measured {
     let measured = measure(&[hard_table()]);
     let (quick, slow) = (measured.library.mean(), measured.simple.mean());
     println!(
@@ -185,7 +200,40 @@ fn hard() -> bool {
         readable(slow),
         ratio(slow / quick)
     );
-    !measured.differ
+    let gap = measured.gap.mean();
+    println!(
+        "  its gap {}, gap / period {}",
+        readable(gap),
+        ratio(gap / quick)
+    );
+    measured
+}
+
+/// Whether the gap takes no longer than the period: by the means of the first family, which is that of the largest
+/// tables, and by the worst table of all that were met.
+fn gap_is_no_longer(all: &[Measured]) -> bool {
+    let worst = |times: fn(&Measured) -> &Times| {
+        let worst = all.iter().map(|measured| times(measured).worst());
+        worst.fold(0.0, f64::max)
+    };
+    let means = [all[0].gap.mean(), all[0].library.mean()];
+    let worst = [worst(|it| &it.gap), worst(|it| &it.library)];
+    println!("\nthe gap beside the period:");
+    for (what, [gap, period]) in [("mean of the largest", means), ("worst of all", worst)] {
+        println!(
+            "  {}: gap {}, period {}, gap / period {}",
+            what,
+            readable(gap),
+            readable(period),
+            ratio(gap / period)
+        );
+    }
+    let good = means[0] <= means[1] && worst[0] <= worst[1];
+    println!(
+        "  the gap takes {} than the period on the largest tables",
+        if good { "no longer" } else { "longer" }
+    );
+    good
 }
 
 // ---- growth -------------------------------------------------------------
@@ -272,7 +320,7 @@ fn print_rule(asked: &Asked) {
     } else {
         "optimised"
     };
-    println!("the period search of the library, beside that of a simple planner (simple.rs)");
+    println!("the period search of the library, beside that of a simple planner (simple.rs), and its gap");
     println!("measured on {}", asked.on);
     println!("compiled for {}, {}", std::env::consts::ARCH, built);
     println!(
@@ -310,7 +358,7 @@ fn write_picture(asked: &Asked, panels: &[Panel]) -> bool {
 }
 
 /// Times of all families and of growth, then the test with little stack. True where every answer is the same; only then
-/// the picture is written.
+/// the picture is written; and where the gap takes no longer than the period.
 pub fn speed_command(args: &[String]) -> bool {
     let asked = match asked(args) {
         Some(asked) => asked,
@@ -320,18 +368,17 @@ pub fn speed_command(args: &[String]) -> bool {
         }
     };
     print_rule(&asked);
-    let mut same = true;
-    for one in FAMILIES {
-        same &= family(&asked, one);
-    }
-    same &= hard();
+    let families = FAMILIES.into_iter().map(|one| family(&asked, one));
+    let mut all: Vec<Measured> = families.collect();
+    all.push(hard());
+    let no_longer = gap_is_no_longer(&all);
     let (panels, agree) = all_growth(&asked);
-    same &= agree;
+    let same = agree && all.iter().all(|measured| !measured.differ);
     println!();
     println!("{}", if same { "all agree" } else { "they differ" });
     let written = same && write_picture(&asked, &panels);
     let served = small_stack_serves(&asked);
-    written && served
+    written && served && no_longer
 }
 
 // ---- the table that is not drawn ----------------------------------------

@@ -23,10 +23,11 @@ use std::io::Write;
 use std::process::{Command, Stdio};
 
 /// What is measured, in the order in which it is printed.
-const NAMES: [&str; 10] = [
+const NAMES: [&str; 11] = [
     "plan",
     "fold",
     "period",
+    "gap",
     "boards_fit",
     "values_arrive",
     "margin",
@@ -188,6 +189,7 @@ fn with_room(name: &str, asked: &mut Asked) -> Answer {
         "plan" => library::plan(bytes, &mut out),
         "fold" => library::fold(bytes, &mut out),
         "period" => library::period(bytes),
+        "gap" => library::gap(bytes),
         "boards_fit" => library::boards_fit(bytes, q),
         "values_arrive" => library::values_arrive(bytes, q),
         "margin" => library::margin(bytes, (i, j, n, q), &mut places),
@@ -209,6 +211,7 @@ fn address_of(name: &str) -> usize {
         "plan" => c::trevozhil_plan as *const () as usize,
         "fold" => c::trevozhil_fold as *const () as usize,
         "period" => c::trevozhil_period as *const () as usize,
+        "gap" => c::trevozhil_gap as *const () as usize,
         "boards_fit" => c::trevozhil_boards_fit as *const () as usize,
         "values_arrive" => c::trevozhil_values_arrive as *const () as usize,
         "margin" => c::trevozhil_margin as *const () as usize,
@@ -237,7 +240,7 @@ fn arguments(name: &str, asked: &Asked, out: [usize; 2]) -> Vec<usize> {
         "margin" => [&table[..], &margin, &[q], &out[..1]].concat(),
         "judge_numbers" => [&counts[..], &follow, &ops, &holds, &decider].concat(),
         "write" => [&counts[..], &follow, &ops, &holds, &decider, &out].concat(),
-        "period" | "judge" | "known" => table.to_vec(),
+        "period" | "gap" | "judge" | "known" => table.to_vec(),
         _ => unreachable!("{}", name),
     }
 }

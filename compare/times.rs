@@ -86,10 +86,19 @@ impl Times {
         self.all.iter().copied().fold(0.0, f64::max)
     }
 
+    /// How many times longer than the other's time, on each table.
+    fn ratios<'a>(&'a self, other: &'a Times) -> impl Iterator<Item = f64> + 'a {
+        self.all.iter().zip(&other.all).map(|(one, two)| one / two)
+    }
+
     /// How many times longer than the other's time on the same table, where that is least.
     pub fn least_ratio(&self, other: &Times) -> f64 {
-        let ratios = self.all.iter().zip(&other.all).map(|(one, two)| one / two);
-        ratios.fold(f64::INFINITY, f64::min)
+        self.ratios(other).fold(f64::INFINITY, f64::min)
+    }
+
+    /// The same, where it is most.
+    pub fn most_ratio(&self, other: &Times) -> f64 {
+        self.ratios(other).fold(0.0, f64::max)
     }
 }
 

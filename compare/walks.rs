@@ -5,7 +5,7 @@
 use crate::judge::{has, Op, Table};
 
 /// The modes that may come one turn after a mode of the set.
-fn after_one_turn(table: &Table, set: u64) -> u64 {
+pub fn after_one_turn(table: &Table, set: u64) -> u64 {
     (0..table.modes)
         .filter(|mode| has(set, *mode))
         .fold(0, |all, mode| all | table.follow[mode as usize])
@@ -24,7 +24,7 @@ pub fn reached_modes(table: &Table) -> u64 {
 }
 
 /// The members of a set, lowest first.
-fn members(table: &Table, set: u64) -> impl Iterator<Item = u64> {
+pub fn members(table: &Table, set: u64) -> impl Iterator<Item = u64> {
     (0..table.modes).filter(move |mode| has(set, *mode))
 }
 
@@ -67,12 +67,12 @@ fn right_boards_from(table: &Table, mode: u64, q: u64) -> bool {
 }
 
 /// The writers of a cell.
-fn writers(table: &Table, cell: u64) -> impl Iterator<Item = &Op> {
+pub fn writers(table: &Table, cell: u64) -> impl Iterator<Item = &Op> {
     table.ops.iter().filter(move |op| has(op.writes, cell))
 }
 
 /// Of a cycle of this mode, the write of the cell that ends last.
-fn last_write(table: &Table, cell: u64, mode: u64) -> Option<&Op> {
+pub fn last_write(table: &Table, cell: u64, mode: u64) -> Option<&Op> {
     writers(table, cell)
         .filter(|op| op.runs_in(mode))
         .max_by_key(|op| op.end())
@@ -87,13 +87,13 @@ fn modes_of_carried(table: &Table, cell: u64, reader: &Op) -> u64 {
 
 /// A reader of one cell with the modes in which its source is in an earlier
 /// cycle.
-struct Reader<'a> {
-    op: &'a Op,
-    carried: u64,
+pub struct Reader<'a> {
+    pub op: &'a Op,
+    pub carried: u64,
 }
 
 /// All readers of a cell.
-fn readers(table: &Table, cell: u64) -> Vec<Reader<'_>> {
+pub fn readers(table: &Table, cell: u64) -> Vec<Reader<'_>> {
     let all = table.ops.iter().filter(|op| has(op.reads, cell));
     all.map(|op| Reader {
         op,

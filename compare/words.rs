@@ -13,6 +13,7 @@ fold boards Q: do the boards fit at period Q
 fold values Q: do the values arrive at period Q
 fold margin I J N Q: ticks left from the end of step I to the start of step J, N cycles later, at period Q
 fold unfold: the starts of the reply on standard input
+fold gap: the smallest gap from one start to the next, for cycles that the operator starts
 I, J, N, Q are decimal numbers
 ";
 
@@ -27,6 +28,7 @@ pub enum Question {
     Values(u64),
     Margin(u64, u64, u64, u64),
     Unfold,
+    Gap,
 }
 
 // ---- from words to a question -------------------------------------------
@@ -56,6 +58,7 @@ pub fn question_in(words: &[Word]) -> Option<Question> {
         (b"values", [q]) => Some(Question::Values(*q)),
         (b"margin", [i, j, n, q]) => Some(Question::Margin(*i, *j, *n, *q)),
         (b"unfold", []) => Some(Question::Unfold),
+        (b"gap", []) => Some(Question::Gap),
         _ => None,
     }
 }
@@ -89,6 +92,7 @@ pub fn text(question: Question, bytes: &[u8]) -> String {
             format!("margin {}\n", margin)
         }),
         Question::Unfold => told(answers::read_starts(bytes), starts_text),
+        Question::Gap => told(answers::gap(bytes), |gap| format!("gap {}\n", gap)),
     }
 }
 

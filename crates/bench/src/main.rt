@@ -101,6 +101,12 @@ fn station() {
     one(b"largest");
 }
 
+// tables whose cycles the operator starts
+fn buttons() {
+    one(b"button");
+    one(b"button-rinse");
+}
+
 // ---- K1 into few bytes
 
 fn say(answer: Answer) {
@@ -141,5 +147,6 @@ fn main() {
     holds();
     slips();
     station();
+    buttons();
     k1_into_few();
 }
