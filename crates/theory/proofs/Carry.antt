@@ -3,7 +3,6 @@
 use Prim.Native.Nat.{ℕ, zero, suc, _+_, _*_, _<_, _≤_}
 use mathlib.Core.Path.{_≡_, refl, ap, subst, subst⁻¹}
 use mathlib.Core.List.{List, [], _∷_, map}
-use native.Mathlib.Decide.{decLt}
 use native.Mathlib.Omega.{arith}
 use lib.ListN.{length, length-map}
 use Rattle.rules.specs.Sets.{In}
@@ -11,6 +10,7 @@ use Rattle.rules.specs.Table.{Table, nops, op, endOf, Accepted}
 use Rattle.rules.specs.Runs.{mode, IsRun, Runs, Source, BoardsRightAt, ValuesRightAt, RightAt, Right, spaced, IsPeriod}
 use Rattle.rules.specs.Better.{Better}
 use Rattle.theory.specs.Carry.{OpCarried, Carry}
+use Rattle.theory.proofs.Order.{not-below}
 use Rattle.theory.proofs.Exists.{run-mode}
 use Rattle.theory.proofs.Sources.{ended-iff-started, writes-in-order}
 
@@ -176,8 +176,4 @@ module _ (T S : Table) (okT : Accepted T) (okS : Accepted S) (le : Better T S) w
 
   -- "so its smallest period is no longer"
   pub better-period : (q p : ℕ) → IsPeriod T q → IsPeriod S p → p ≤ q
-  better-period q p x y = go (decLt q p)
-    where
-      go : Dec (q < p) → p ≤ q
-      go (yes h) = absurd (y .least q (x .low) h (better-right q (x .low) (x .high) (x .right)))
-      go (no h) = omega arith
+  better-period q p x y = not-below (λ z. Right S z) (y .least) (x .low) (better-right q (x .low) (x .high) (x .right))

@@ -17,7 +17,7 @@ use Rattle.rules.specs.Table.{Table, followers, Accepted}
 use Rattle.rules.specs.Runs.{mode, IsRun, BoardsRightAt, ValuesRightAt, Right, spaced, IsPeriod}
 use Rattle.theory.specs.Walks.{Reach, begin, turn, IsReach}
 use Rattle.theory.specs.Tests.{step, close, reachSet, boardsFine, valuesFine, rightb, firstFrom, periodOf}
-use Rattle.theory.proofs.Order.{Cmp, cmp}
+use Rattle.theory.proofs.Order.{Cmp, cmp, not-below}
 use Rattle.theory.proofs.Says.{Says, Known, holds, fails, known, clash-bool}
 use Rattle.theory.proofs.Sets.{in-or, in-small}
 use Rattle.theory.proofs.Modes.{in-step, grown}
@@ -150,7 +150,7 @@ module _ (T : Table) (ok : Accepted T) where
   -- values are right exactly from a bound up
   pub values-bound : (bound : ℕ) × ((q : ℕ) → 1 ≤ q → ValuesRightAt T (spaced q) ↔ bound ≤ q)
   values-bound =
-      (bound, λ q low. (λ right. above q low right (decLt q bound), λ h. values-longer T ok bound q h (found .holds)))
+      (bound, λ q low. (not-below (λ q. ValuesRightAt T (spaced q)) (found .none) low, λ h. values-longer T ok bound q h (found .holds)))
     where
       bound : ℕ
       bound = firstFrom (valuesFine T (reachSet T)) (T .len - 1) 1
@@ -159,7 +159,3 @@ module _ (T : Table) (ok : Accepted T) where
       found =
           least-of (λ q. ValuesRightAt T (spaced q)) (valuesFine T (reachSet T)) says-arrive
           (T .len) (ok .len-low) (length-right T ok .values)
-
-      above : (q : ℕ) → 1 ≤ q → ValuesRightAt T (spaced q) → Dec (q < bound) → bound ≤ q
-      above q low right (yes h) = absurd (found .none q low h right)
-      above q low right (no h) = omega arith

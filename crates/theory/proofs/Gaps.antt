@@ -1,11 +1,11 @@
 -- Document 02, No. 6, "Cycles started by the operator": a gap serves exactly when it passes a test of pairs; the length serves; the gap is one, and
 -- is never below the period; every longer gap serves; demand 3 in the same words.
 -- Assumes nothing.
-use Prim.Native.Nat.{ℕ, zero, suc, _+_, _-_, _*_, _<_, _≤_}
+use Prim.Native.Nat.{ℕ, zero, suc, _+_, _-_, _*_, _≤_}
 use mathlib.Core.Path.{_≡_, ap}
 use mathlib.Core.Logic.{_↔_}
 use native.Mathlib.Nat.{mul-le-mul-right}
-use native.Mathlib.Decide.{decLe, decLt}
+use native.Mathlib.Decide.{decLe}
 use native.Mathlib.Omega.{arith}
 use Rattle.rules.specs.Table.{Table, op, heldTo, Accepted}
 use Rattle.rules.specs.Runs.{mode, BoardsRightAt, RightAt, Right, spaced, IsPeriod}
@@ -14,7 +14,7 @@ use Rattle.rules.specs.Better.{Better}
 use Rattle.theory.specs.Near.{BoardsClear, ValuesClear}
 use Rattle.theory.specs.Tests.{reachSet, servesb, gapOf}
 use Rattle.theory.proofs.Says.{Says, says-by, says-and}
-use Rattle.theory.proofs.Order.{Cmp, less, same, more, cmp, distance}
+use Rattle.theory.proofs.Order.{not-below, distance}
 use Rattle.theory.proofs.Apart.{spaced-apart, apart-less, apart-turns}
 use Rattle.theory.proofs.Walks.{realise}
 use Rattle.theory.proofs.Period.{boards-by}
@@ -26,7 +26,7 @@ use Rattle.theory.proofs.Carry.{better-right-at}
 
 -- ---- whatever the table
 
--- a gap that serves is a right period: "equal starts are one such sequence"
+-- a gap that serves is a right period: equal gaps are one such sequence
 pub serves-right : (T : Table) (g : ℕ) → Serves T g → Right T g
 serves-right T g x = x (spaced g) (spaced-apart (omega arith))
 
@@ -36,20 +36,12 @@ gap-longer T g h l x s a = x s (apart-less l a)
 
 -- a table has one gap
 pub gap-unique : (T : Table) (g h : ℕ) → IsGap T g → IsGap T h → g ≡ h
-gap-unique T g h x y = go (cmp g h)
-  where
-    go : Cmp g h → g ≡ h
-    go (less l) = absurd (y .least g (x .low) l (x .serves))
-    go (same e) = e
-    go (more l) = absurd (x .least h (y .low) l (y .serves))
+gap-unique T g h x y =
+    omega (arith, not-below (λ z. Serves T z) (y .least) (x .low) (x .serves), not-below (λ z. Serves T z) (x .least) (y .low) (y .serves))
 
 -- "the gap is never below the period"
 pub gap-not-below : (T : Table) (q g : ℕ) → IsPeriod T q → IsGap T g → q ≤ g
-gap-not-below T q g x y = go (decLt g q)
-  where
-    go : Dec (g < q) → q ≤ g
-    go (yes h) = absurd (x .least g (y .low) h (serves-right T g (y .serves)))
-    go (no h) = omega arith
+gap-not-below T q g x y = not-below (λ z. Right T z) (x .least) (y .low) (serves-right T g (y .serves))
 
 -- ---- starts that make two operations meet: equal gaps, but for the one behind cycle k, which is longer by e
 
@@ -115,7 +107,7 @@ module _ (T : Table) (ok : Accepted T) (g : ℕ) where
         clear (suc n) (omega arith) i j (mode r k) (mode r l) (meet-pair T r i k j l n m e),
       ))
 
-  -- the finite test: "g serves exactly when n·g is at least" what each pair asks
+  -- the finite test: g serves exactly when n·g is at least what each pair n turns apart asks
   pub gap-iff : Serves T g ↔ (BoardsClear T g × ValuesClear T g)
   gap-iff = (
     λ x. (clear-of (λ e k. x (late g k e) (late-apart g k e) .boards), values-clear T ok g (serves-right T g x .values)),
@@ -167,8 +159,4 @@ module _ (T S : Table) (okT : Accepted T) (okS : Accepted S) (le : Better T S) w
 
   -- "so its smallest" gap "is no longer"
   pub better-gap : (g h : ℕ) → IsGap T g → IsGap S h → h ≤ g
-  better-gap g h x y = go (decLt g h)
-    where
-      go : Dec (g < h) → h ≤ g
-      go (yes l) = absurd (y .least g (x .low) l (better-serves g (x .low) (x .high) (x .serves)))
-      go (no l) = omega arith
+  better-gap g h x y = not-below (λ z. Serves S z) (y .least) (x .low) (better-serves g (x .low) (x .high) (x .serves))

@@ -8,16 +8,12 @@ use native.Mathlib.Omega.{arith}
 use Rattle.rules.specs.Sets.{Share, Overlap}
 use Rattle.rules.specs.Table.{Op, Table, nops, op, heldTo, Clash, Race, Contest, Accepted}
 use Rattle.rules.specs.Runs.{mode, IsRun, Runs, BoardsRightAt, ValuesRightAt, Right, spaced, IsPeriod}
-use Rattle.theory.proofs.Order.{Cmp, less, same, more, cmp, later}
+use Rattle.theory.proofs.Order.{Cmp, less, same, more, cmp, not-below, later}
 
 -- a table has one period
 pub period-unique : (T : Table) (p q : ℕ) → IsPeriod T p → IsPeriod T q → p ≡ q
-period-unique T p q x y = go (cmp p q)
-  where
-    go : Cmp p q → p ≡ q
-    go (less h) = absurd (y .least p (x .low) h (x .right))
-    go (same e) = e
-    go (more h) = absurd (x .least q (y .low) h (y .right))
+period-unique T p q x y =
+    omega (arith, not-below (λ z. Right T z) (y .least) (x .low) (x .right), not-below (λ z. Right T z) (x .least) (y .low) (y .right))
 
 -- ---- clash and race do not depend on the order of the two
 clash-sym : {o u : Op} → Clash o u → Clash u o
