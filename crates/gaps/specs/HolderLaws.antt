@@ -8,13 +8,12 @@ use native.Mathlib.Decide.{decLt}
 use native.Mathlib.Omega.{arith}
 use lib.Bits.{bitAnd}
 use lib.ListN.{length, getD, set}
-use lib.Seq.{getD-set-same, getD-set-other}
 use Rattle.rules.specs.Sets.{shares}
 use Rattle.rules.specs.Table.{Op, Table, op, heldTo, Accepted}
 use Rattle.rules.specs.Gaps.{Serves, IsGap}
 use Rattle.theory.specs.Walks.{IsReach}
 use Rattle.theory.specs.Tests.{via, LetGo}
-use Rattle.theory.proofs.Order.{Cmp, cmp}
+use Rattle.theory.proofs.Order.{filled-more}
 use Rattle.theory.proofs.Tests.{clear-let-go}
 use Rattle.theory.proofs.Values.{values-clear}
 use Rattle.theory.proofs.Gaps.{serves-right, gap-iff, length-serves}
@@ -33,12 +32,7 @@ use Rattle.gaps.specs.Holders.{ModesOf, LetsGo, HolderFine}
 
 pub modes-more : (cols : List ℕ) (k r : ℕ) (modes : List ℕ) → k < length modes → ModesOf cols k modes → r ≡ opBy cols k .modes
     → ModesOf cols (k + 1) (set modes k r)
-modes-more cols k r modes h all here = record { each = λ j l. go j l (cmp j k) }
-  where
-    go : (j : ℕ) → j < k + 1 → Cmp j k → getD (set modes k r) j 0 ≡ opBy cols j .modes
-    go j l (Cmp.less e) = getD-set-other modes k j r 0 (λ x. omega arith) ∙ all .each j e
-    go j l (Cmp.same e) = rw (e, getD-set-same modes k r 0 h) here
-    go j l (Cmp.more e) = absurd (omega arith)
+modes-more cols k r modes h all here = record { each = filled-more (λ j x. x ≡ opBy cols j .modes) k r modes h (all .each) here }
 
 -- ---- one operation that holds boards
 
@@ -81,7 +75,6 @@ module _ (T : Table) (ok : Accepted T) (F : List ℕ) (turns : TurnsOf T F) (col
   abbrev pub Holders : ℕ → Type 0
   Holders g = Each (HolderFine F cols R) 32 g
 
-  -- an operation past the last runs in no mode
   holders-let-go : (g : ℕ) → Holders g → LetGo T R g
   unfolding HolderFine
   holders-let-go g x i hi n j hj b e =
@@ -91,6 +84,7 @@ module _ (T : Table) (ok : Accepted T) (F : List ℕ) (turns : TurnsOf T F) (col
       subst (λ (u : Op). LetsGo F R n g (op T i) u) (C .each j lj) first b
       (ap (λ (s : ℕ). shares s (op T j .modes)) (turns 0 n (bitAnd R (op T i .modes))) ∙ e)
 
+  -- an operation past the last has no board
   let-go-holders : (g : ℕ) → LetGo T R g → Holders g
   unfolding HolderFine
   let-go-holders g x i li m j lj =

@@ -6,10 +6,9 @@ use mathlib.Core.List.{List}
 use mathlib.Core.Logic.{_⊎_, inl, inr}
 use native.Mathlib.Omega.{arith}
 use lib.Bits.{bitOr}
-use lib.ListN.{length, getD, set}
-use lib.Seq.{getD-set-same, getD-set-other}
+use lib.ListN.{length, set}
 use Rattle.rules.specs.Sets.{In}
-use Rattle.theory.proofs.Order.{Cmp, cmp}
+use Rattle.theory.proofs.Order.{Cmp, cmp, filled-more}
 use Rattle.theory.proofs.Sets.{in-none}
 use Rattle.sets.specs.Members.{in-with}
 use Rattle.laters.specs.Laters.{MayMeet, LaterOf, AllLater}
@@ -47,9 +46,4 @@ module _ (cols : List ℕ) (i q : ℕ) where
 -- one set more
 pub all-later-more : (cols : List ℕ) (q k r : ℕ) (later : List ℕ) → k < length later → AllLater cols q k later → LaterOf cols k q 32 r
     → AllLater cols q (k + 1) (set later k r)
-all-later-more cols q k r later h all here = record { each = λ i l. go i l (cmp i k) }
-  where
-    go : (i : ℕ) → i < k + 1 → Cmp i k → LaterOf cols i q 32 (getD (set later k r) i 0)
-    go i l (Cmp.less e) = rw (getD-set-other later k i r 0 (λ x. omega arith)) (all .each i e)
-    go i l (Cmp.same e) = rw (e, getD-set-same later k r 0 h) here
-    go i l (Cmp.more e) = absurd (omega arith)
+all-later-more cols q k r later h all here = record { each = filled-more (λ i x. LaterOf cols i q 32 x) k r later h (all .each) here }

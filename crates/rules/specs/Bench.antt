@@ -124,7 +124,8 @@ pub data Case : Type 0 where
   gaps : List ℕ → Verdict ℕ → Case
 
 -- what a case claims: that the answer beside the bytes is the answer by the rules. A reply is that of the smallest period that is right in
--- every run, folded; boards fit and values arrive in every run; a gap is the smallest that serves in every run, for all starts that are so far apart; a refusal is the first that is due.
+-- every run, folded; boards fit and values arrive in every run; a gap is the smallest that serves in every run, for all starts that are so far
+-- apart; a refusal is the first that is due.
 unfoldable pub Holds : Case → Type 0
 Holds (replies s v) = ReplyTo s v
 Holds (margins s i j n q v) = IsMargin s i j n q v
@@ -436,7 +437,8 @@ every-second =
 abbrev pub gap : Table → ℕ → Case
 gap T g = gaps (tableBytes T) (accepted g)
 
--- K1 to K9; gaps longer than the period, also where every period is right; a quotient that is rounded up; a hold; values that are good before the board is free; refusals
+-- K1 to K9; gaps longer than the period, also where every period is right; a quotient that is rounded up; a hold, also behind a value that is
+-- good already; refusals
 unfoldable pub gapBench : List Case
 unfolding k1-bytes tableBytes
 gapBench =

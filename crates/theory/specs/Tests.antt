@@ -1,5 +1,5 @@
--- Tests that compute: which modes a run can reach, whether a period is right, whether a gap serves, the period, the gap and the reply. Not part of any promise: proofs/Tests,
--- Exists, Gaps and Answering show that they are what the rules say.
+-- Tests that compute: which modes a run can reach, whether a period is right, whether a gap serves, the period, the gap and the reply. Not part
+-- of any promise: proofs/Tests, Exists, Gaps and Answering show that they are what the rules say.
 -- Assumes nothing.
 use Prim.Native.Nat.{ℕ, zero, suc, _+_, _-_, _*_, _/_, _^_, _<_, _≤_}
 use mathlib.Core.Path.{_≡_}
