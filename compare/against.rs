@@ -4,7 +4,7 @@
 //! To add a function: declare it in `library`, give it a line in FUNCTIONS of
 //! `findings`, and compare it in the draw that has its inputs (or in one more draw).
 
-use crate::answers::{self, pairs_of_bytes, reply_bytes, starts_of, Listing, Reply, Row};
+use crate::answers::{self, reply_bytes, start_bytes, starts_of, Reply, Row};
 use crate::answers::{DECIDER_FIELD, LONGEST_REPLY};
 use crate::blamed;
 use crate::examples::K1;
@@ -15,7 +15,6 @@ use crate::hex::{bytes_in, hex};
 use crate::judge::{bytes_of, bytes_of_numbers, judge, judge_numbers, numbers_of, put};
 use crate::judge::{write_table, Numbers, Refusal, Table};
 use crate::library::{self, Said};
-use crate::places;
 
 /// What is drawn, in turn.
 const DRAWS: [fn(&mut Seed, &mut Findings); 3] = [draw_bytes, draw_numbers, draw_reply];
@@ -72,16 +71,10 @@ impl Writing {
 /// How many buffers there are for one answer.
 pub const ROOMS: usize = 5;
 
-/// One byte too short (or empty, where nothing is needed), just enough, longer, empty, and drawn.
+/// One byte too short, just enough, longer, empty, and drawn.
 pub fn rooms(seed: &mut Seed, needed: usize) -> [usize; ROOMS] {
     let longer = needed + seed.between(1, 40) as usize;
-    [
-        needed.saturating_sub(1),
-        needed,
-        longer,
-        0,
-        generate::room(seed, needed),
-    ]
+    [needed - 1, needed, longer, 0, generate::room(seed, needed)]
 }
 
 // ---- a table's bytes ----------------------------------------------------
@@ -185,49 +178,23 @@ fn compare_gap(bytes: &[u8], period: Result<usize, Refusal>, findings: &mut Find
     compare_question(name, bytes, library::gap, answer, findings);
 }
 
-/// The places of an accepted table are counted by the cell that has most.
-fn name_of_places(places: &[u64]) -> &'static str {
-    match places.iter().max() {
-        None => "places, no cells",
-        Some(1) => "places, 1",
-        Some(2) => "places, 2",
-        Some(3) => "places, 3",
-        Some(4..=32) => "places, 4 to 32",
-        Some(33..=999) => "places, above 32",
-        Some(_) => "places, thousands",
-    }
-}
-
-/// The places of each cell, 2 bytes each.
-fn places_due(listing: &Result<Listing, Refusal>) -> Writing {
-    let places = listing.as_ref().map(|listing| &listing.places[..]);
-    Writing {
-        name: places.map_or("places", name_of_places),
-        call: library::places,
-        answer: places
-            .map(|places| pairs_of_bytes(places.iter().copied()))
-            .map_err(|refusal| *refusal),
-    }
-}
-
-/// Period, gap, plan, places and fold; what is written goes into so many buffers, the places into about half as many.
+/// Period, gap, plan and fold; what is written goes into so many buffers.
 fn compare_folds(bytes: &[u8], most: usize, seed: &mut Seed, findings: &mut Findings) {
-    let listing = answers::listing(bytes);
-    let answer = listing.as_ref().map(|it| it.reply.period as usize);
+    let folded = answers::fold(bytes);
+    let answer = folded.as_ref().map(|reply| reply.period as usize);
     let answer = answer.map_err(|refusal| *refusal);
     compare_question("period", bytes, library::period, answer, findings);
     compare_gap(bytes, answer, findings);
     let fold = Writing {
-        name: listing.as_ref().map_or("fold, refused", |_| "fold"),
+        name: folded.as_ref().map_or("fold, refused", |_| "fold"),
         call: library::fold,
-        answer: Ok(answers::text_of(&listing).into_bytes()),
+        answer: Ok(answers::text_of(&folded).into_bytes()),
     };
     fold.compare(bytes, most, seed, findings);
-    places_due(&listing).compare(bytes, (most + 1) / 2, seed, findings);
     let plan = Writing {
         name: "plan",
         call: library::plan,
-        answer: listing.map(|it| reply_bytes(&it.reply)),
+        answer: folded.map(|reply| reply_bytes(&reply)),
     };
     plan.compare(bytes, most, seed, findings);
 }
@@ -267,7 +234,7 @@ fn compare_there_and_back(table: &Table, seed: &mut Seed, findings: &mut Finding
     let unfold = Writing {
         name: "unfold",
         call: library::unfold,
-        answer: Ok(pairs_of_bytes(table.ops.iter().map(|op| op.start))),
+        answer: Ok(start_bytes(table.ops.iter().map(|op| op.start))),
     };
     unfold.compare(&reply[..count], 1, seed, findings);
 }
@@ -509,26 +476,6 @@ fn fixed_gaps(seed: &mut Seed, findings: &mut Findings) {
     }
 }
 
-/// The places alone, since a search for the periods of some of these takes long. They are not among drawn tables: where
-/// there are as many as can be, and where the modes differ in how often they write.
-fn fixed_places(seed: &mut Seed, findings: &mut Findings) {
-    let most = generate::most_places;
-    for table in [
-        most(1000, 1, true),
-        most(1000, 32, true),
-        most(100, 32, false),
-        generate::handed_down(100),
-    ] {
-        let places = places::at(&table, 1).into_iter();
-        let due = Writing {
-            name: "places, fixed",
-            call: library::places,
-            answer: Ok(pairs_of_bytes(places)),
-        };
-        due.compare(&bytes_of(&table), ROOMS, seed, findings);
-    }
-}
-
 // ---- replies ------------------------------------------------------------
 
 fn compare_unfold(reply: &[u8], seed: &mut Seed, findings: &mut Findings) {
@@ -610,9 +557,6 @@ fn draw_numbers(seed: &mut Seed, findings: &mut Findings) {
 
 // ---- all ----------------------------------------------------------------
 
-/// Of how many inputs one more table is drawn that stores thousands of values.
-const STOCKED: u64 = 1000;
-
 /// So many drawn inputs, after the fixed ones. True where no answer differs and
 /// every number was met.
 pub fn against(count: u64, mut seed: Seed) -> bool {
@@ -626,7 +570,6 @@ pub fn against(count: u64, mut seed: Seed) -> bool {
     fixed_replies(&mut seed, &mut findings);
     fixed_margins(&mut seed, &mut findings);
     fixed_gaps(&mut seed, &mut findings);
-    fixed_places(&mut seed, &mut findings);
     for turn in 0..count {
         let draw = DRAWS[turn as usize % DRAWS.len()];
         draw(&mut seed, &mut findings);
@@ -642,10 +585,6 @@ pub fn against(count: u64, mut seed: Seed) -> bool {
         };
         draw_table(&table, 1, &mut seed, &mut findings);
     }
-    for _ in 0..count / STOCKED {
-        let table = generate::stocked(&mut seed);
-        draw_table(&table, 1, &mut seed, &mut findings);
-    }
     findings.print();
     let missed = findings.missed();
     missed.iter().for_each(|line| println!("{}", line));
@@ -653,7 +592,7 @@ pub fn against(count: u64, mut seed: Seed) -> bool {
         "{} inputs, {} small tables and {} large ones drawn, {} answers differ",
         count,
         count / 2,
-        count / 100 + count / STOCKED,
+        count / 100,
         findings.differences
     );
     findings.differences == 0 && missed.is_empty()

@@ -1,10 +1,9 @@
 //! The whole public answers (document 01, "Runs and right periods", "Bytes",
-//! "Numbers of refusal", "The program"; document 02, No. 1 for the places).
+//! "Numbers of refusal", "The program").
 
 use crate::gaps;
 use crate::judge::{demand, judge, judge_ranges, number_in, push_field, push_number, put};
-use crate::judge::{Fields, Refusal, Table, ASK, MOST_CELLS, MOST_OPS};
-use crate::places;
+use crate::judge::{Fields, Refusal, Table, ASK, MOST_OPS};
 use crate::walks::{self, period};
 
 /// "reads at most 4096 bytes of standard input and ignores more"
@@ -27,12 +26,9 @@ pub const DECIDER_FIELD: usize = 4;
 pub const LONGEST_REPLY: usize = 5 + 7 * MOST_OPS;
 pub const LONGEST_STARTS: usize = 2 * MOST_OPS;
 
-/// The places of each cell, 2 bytes each.
-pub const LONGEST_PLACES: usize = 2 * MOST_CELLS;
-
-/// No text has more bytes: the lines `period 1000`, `op 31 start 999 fst 999` and
-/// `cell 31 places 32001` have 12, 24 and 21.
-pub const LONGEST_TEXT: usize = 12 + 24 * MOST_OPS + 21 * MOST_CELLS;
+/// No text has more bytes: the lines `period 1000` and `op 31 start 999 fst 999`
+/// have 12 and 24.
+pub const LONGEST_TEXT: usize = 12 + 24 * MOST_OPS;
 
 /// One row of a folded table.
 #[derive(Clone, Copy, Debug, PartialEq, Eq)]
@@ -58,30 +54,13 @@ fn row_of(start: u64, q: u64) -> Row {
 }
 
 /// The table folded onto its period.
-fn fold_table(table: &Table) -> Reply {
-    let q = period(table);
-    Reply {
+pub fn fold(bytes: &[u8]) -> Result<Reply, Refusal> {
+    let table = judge(bytes)?;
+    let q = period(&table);
+    Ok(Reply {
         period: q,
         rows: table.ops.iter().map(|op| row_of(op.start, q)).collect(),
-    }
-}
-
-/// The same of a table's bytes.
-pub fn fold(bytes: &[u8]) -> Result<Reply, Refusal> {
-    judge(bytes).map(|table| fold_table(&table))
-}
-
-/// A folded table with the places of each cell "for the period found".
-pub struct Listing {
-    pub reply: Reply,
-    pub places: Vec<u64>,
-}
-
-pub fn listing(bytes: &[u8]) -> Result<Listing, Refusal> {
-    let table = judge(bytes)?;
-    let reply = fold_table(&table);
-    let places = places::at(&table, reply.period);
-    Ok(Listing { reply, places })
+    })
 }
 
 /// "Reply fields: 11, length 2: period. 12, length 4, for each operation in table
@@ -137,18 +116,18 @@ pub fn read_starts(bytes: &[u8]) -> Result<Vec<u64>, Refusal> {
     }
 }
 
-/// Numbers in order, 2 bytes each, as starts and places are written.
-pub fn pairs_of_bytes(numbers: impl Iterator<Item = u64>) -> Vec<u8> {
+/// "the starts in order, 2 bytes each"
+pub fn start_bytes(starts: impl Iterator<Item = u64>) -> Vec<u8> {
     let mut bytes = Vec::new();
-    for number in numbers {
-        push_number(&mut bytes, number, 2);
+    for start in starts {
+        push_number(&mut bytes, start, 2);
     }
     bytes
 }
 
 /// The starts that a reply's rows came from.
 pub fn starts_of(reply: &[u8]) -> Result<Vec<u8>, Refusal> {
-    Ok(pairs_of_bytes(read_starts(reply)?.into_iter()))
+    Ok(start_bytes(read_starts(reply)?.into_iter()))
 }
 
 /// "Unfolding writes the starts", then ROOM; the number of bytes written.
@@ -200,44 +179,30 @@ pub fn gap(bytes: &[u8]) -> Result<u64, Refusal> {
     judge(bytes).map(|table| gaps::gap(&table))
 }
 
-/// The places of each cell, in cell order, then ROOM; the number of bytes written.
-pub fn places(bytes: &[u8], out: &mut [u8]) -> Result<usize, Refusal> {
-    let places = judge(bytes).map(|table| places::places(&table))?;
-    put(&pairs_of_bytes(places.into_iter()), out)
-}
-
 /// "one line `refused n a b`"
 pub fn refusal_text(refusal: &Refusal) -> String {
     format!("refused {} {} {}\n", refusal.number, refusal.a, refusal.b)
 }
 
-/// "`period q`, then `op i start s fst f` for each operation in order", and "a line
-/// `cell c places r` for each cell after the operations"
-fn listing_text(listing: &Listing) -> String {
-    let mut text = format!("period {}\n", listing.reply.period);
-    for (i, row) in listing.reply.rows.iter().enumerate() {
+/// "`period q`, then `op i start s fst f` for each operation in order"
+fn reply_text(reply: &Reply) -> String {
+    let mut text = format!("period {}\n", reply.period);
+    for (i, row) in reply.rows.iter().enumerate() {
         text.push_str(&format!("op {} start {} fst {}\n", i, row.folded, row.fst));
     }
-    text + &places_text(&listing.places)
-}
-
-pub fn places_text(places: &[u64]) -> String {
-    let cells = places.iter().enumerate();
-    cells
-        .map(|(cell, places)| format!("cell {} places {}\n", cell, places))
-        .collect()
+    text
 }
 
 /// What is printed of a folded table, or of a refusal. Every line, the last one too,
 /// ends with a line feed.
-pub fn text_of(listing: &Result<Listing, Refusal>) -> String {
-    match listing {
-        Ok(listing) => listing_text(listing),
+pub fn text_of(folded: &Result<Reply, Refusal>) -> String {
+    match folded {
+        Ok(reply) => reply_text(reply),
         Err(refusal) => refusal_text(refusal),
     }
 }
 
 /// What `fold` prints for these bytes of standard input.
 pub fn text(bytes: &[u8]) -> String {
-    text_of(&listing(read_part(bytes)))
+    text_of(&fold(read_part(bytes)))
 }

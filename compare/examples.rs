@@ -6,7 +6,7 @@ use crate::generate::{self, Seed};
 use crate::hex::bytes_in;
 use crate::judge::{bytes_of, judge, Table};
 use crate::words::{self, Word};
-use crate::{pressed, runs, storing, walks};
+use crate::{pressed, runs, walks};
 use std::io::{Read, Write};
 use std::path::Path;
 
@@ -98,17 +98,14 @@ fn is_kept(promises: &[(Vec<Word>, String)], bytes: &[u8]) -> bool {
     promises.iter().any(|(words, _)| words.is_empty()) && promises.iter().all(kept)
 }
 
-/// The table's period is the smallest one at which every run is right, laid out one by one; and its gap and its places
-/// are those that runs show.
+/// The table's period is the smallest one at which every run is right, laid out one by one; and its gap is the one that
+/// runs show.
 fn is_found_by_runs(table: &Table) -> bool {
-    let period = runs::period(table);
-    period == walks::period(table)
-        && pressed::is_found_by_runs(table)
-        && storing::is_found_by_runs(table, period)
+    runs::period(table) == walks::period(table) && pressed::is_found_by_runs(table)
 }
 
-/// The bytes are folded, and asked about, as the comments say. A table is written as it is read, and the period, the
-/// gap and the places of a tiny one are also found by laying out its runs.
+/// The bytes are folded, and asked about, as the comments say. A table is written as it is read, and the period and the
+/// gap of a tiny one are also found by laying out its runs.
 fn folds_as_promised(text: &str) -> bool {
     bytes_in(text).map_or(false, |bytes| {
         let table_is_good = judge(&bytes).map_or(true, |table| {

@@ -11,8 +11,8 @@ use crate::library::Said;
 /// The functions that are compared, each with the numbers that have to be met: 0
 /// for success, and each refusal that the function can give. What `fold` writes of
 /// a refused table is counted by itself, and so are the yes and the no of a question,
-/// gaps beside the period, and places by how many there are.
-const FUNCTIONS: [(&str, &[usize]); 29] = [
+/// and gaps beside the period.
+const FUNCTIONS: [(&str, &[usize]); 20] = [
     ("judge", &[0, 1, 2, 3, 4, 5, 6, 7, 10]),
     ("judge_numbers", &[0, 1, 2, 3, 4, 5, 6, 7, 10]),
     ("write", &[0, 1, 2, 3, 4, 5, 6, 7, 8, 10]),
@@ -29,15 +29,6 @@ const FUNCTIONS: [(&str, &[usize]); 29] = [
     ("values_arrive, yes", &[0]),
     ("values_arrive, no", &[0]),
     ("plan", &[0, 1, 2, 3, 4, 5, 6, 7, 8, 10]),
-    ("places", &[1, 2, 3, 4, 5, 6, 7, 10]),
-    ("places, no cells", &[0]),
-    ("places, 1", &[0, 8]),
-    ("places, 2", &[0, 8]),
-    ("places, 3", &[0, 8]),
-    ("places, 4 to 32", &[0, 8]),
-    ("places, above 32", &[0, 8]),
-    ("places, thousands", &[0, 8]),
-    ("places, fixed", &[0]),
     ("unfold", &[0, 1, 2, 3, 4, 5, 8]),
     ("margin", &[0, 1, 2, 3, 4, 5, 6, 7, 9, 10]),
     ("fold", &[0, 8]),

@@ -27,9 +27,6 @@ pub const EARLY: u32 = 10;
 /// "operations | 1 to 32": the most there may be.
 pub const MOST_OPS: usize = 32;
 
-/// "cells | 0 to 32": the most there may be.
-pub const MOST_CELLS: usize = 32;
-
 /// "six for each operation, in layout order"
 pub const NUMBERS_PER_OP: usize = 6;
 

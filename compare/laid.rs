@@ -8,7 +8,6 @@ use crate::kinds::{Shown, KINDS};
 use crate::library::{self, Said};
 use crate::pressed;
 use crate::runs::{enough_cycles, smallest, Run, Wrong};
-use crate::storing;
 use crate::{simple, walks};
 
 /// How many differences are printed; the others are only counted.
@@ -41,7 +40,6 @@ struct Found {
     kinds: [u64; KINDS.len()],
     gains: [u64; GAINS.len()],
     pressed: pressed::Found,
-    stored: storing::Found,
     differences: u64,
 }
 
@@ -53,7 +51,6 @@ impl Found {
             kinds: [0; KINDS.len()],
             gains: [0; GAINS.len()],
             pressed: pressed::Found::new(MOST_PRINTED),
-            stored: storing::Found::new(MOST_PRINTED),
             differences: 0,
         }
     }
@@ -94,14 +91,13 @@ impl Found {
         let missed = gains().filter(|(count, _)| **count == 0);
         missed.for_each(|(_, name)| println!("no tables with holds {}", name));
         self.pressed.print();
-        self.stored.print();
     }
 
     /// No answer differs, and every kind of table and of period was met.
     fn is_good(&self) -> bool {
         let mut counts = self.kinds.iter().chain(&self.words).chain(&self.gains);
         let all_met = counts.all(|count| *count > 0);
-        self.differences == 0 && all_met && self.pressed.is_good() && self.stored.is_good()
+        self.differences == 0 && all_met && self.pressed.is_good()
     }
 }
 
@@ -313,8 +309,6 @@ fn compare_table(seed: &mut Seed, table: &Table, longer: bool, found: &mut Found
     check_decider(table, &shown.wrong, found);
     compare_holds(seed, &shown, table, found);
     pressed::compare_table(library::gap, seed, &shown, &mut found.pressed);
-    let period = shown.period();
-    storing::compare_table(&library::places, table, period, longer, &mut found.stored);
     for question in &questions(table, &shown.wrong) {
         compare_question(question, found);
     }
@@ -358,7 +352,6 @@ fn compare_long_run(seed: &mut Seed, found: &mut Found) {
         check_decider_of(&run, q, both, found);
     }
     pressed::compare_long_run(library::gap, seed, &run, period, &mut found.pressed);
-    storing::compare_long_run(&library::places, &run, period, &mut found.stored);
 }
 
 pub fn drawn_run(seed: &mut Seed, table: &Table) -> Vec<u64> {
@@ -376,20 +369,7 @@ pub fn drawn_member(seed: &mut Seed, set: u64) -> u64 {
     seed.one_of(&all)
 }
 
-// ---- stored values ------------------------------------------------------
-
-/// A table that stores many values; its kinds are counted, too.
-fn compare_stored(seed: &mut Seed, found: &mut Found) {
-    let table = generate::storing(seed);
-    let period = walks::period(&table);
-    storing::compare_table(&library::places, &table, period, false, &mut found.stored);
-    storing::note_kinds(&table, period, &mut found.stored);
-}
-
 // ---- all ----------------------------------------------------------------
-
-/// Of how many tables one more is drawn that stores many values.
-const FOR_STORED: u64 = 2;
 
 /// So many drawn tables. True where no answer differs and every kind of table and of period
 /// was met.
@@ -399,16 +379,13 @@ pub fn laid_command(count: u64, mut seed: Seed) -> bool {
         let table = generate::tiny(&mut seed);
         compare_table(&mut seed, &table, turn % 16 == 0, &mut found);
         compare_long_run(&mut seed, &mut found);
-        if turn % FOR_STORED == 0 {
-            compare_stored(&mut seed, &mut found);
-        }
     }
     found.print_kinds();
     println!(
         "{} tables with all their runs, both questions at {} periods; {} answers differ",
         count,
         found.words.iter().sum::<u64>(),
-        found.differences + found.pressed.differences() + found.stored.differences()
+        found.differences + found.pressed.differences()
     );
     found.is_good()
 }

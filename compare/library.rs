@@ -32,10 +32,6 @@ pub mod c {
             s: *const u8, s_len: usize, out: *mut u8, out_len: usize, a: *mut u64, b: *mut u64,
         ) -> u32;
 
-        pub fn trevozhil_places(
-            s: *const u8, s_len: usize, out: *mut u8, out_len: usize, a: *mut u64, b: *mut u64,
-        ) -> u32;
-
         pub fn trevozhil_unfold(
             s: *const u8, s_len: usize, out: *mut u8, out_len: usize, a: *mut u64, b: *mut u64,
         ) -> u32;
@@ -144,10 +140,6 @@ fn written(function: Writing, bytes: &mut [u8], out: &mut [u8]) -> Said {
 
 pub fn plan(bytes: &mut [u8], out: &mut [u8]) -> Said {
     written(c::trevozhil_plan, bytes, out)
-}
-
-pub fn places(bytes: &mut [u8], out: &mut [u8]) -> Said {
-    written(c::trevozhil_places, bytes, out)
 }
 
 pub fn unfold(reply: &mut [u8], out: &mut [u8]) -> Said {

@@ -2,14 +2,14 @@
 //!
 //!   library --count N --seed S   the static library's answers against the planner's
 //!   selftest                     the planner's own tests
-//!   runs --count N --seed S      all runs of small tables, laid out at every period and with drawn gaps, and what is
-//!                                stored in them at the period, against the static library and against walks
+//!   runs --count N --seed S      all runs of small tables, laid out at every period and with drawn gaps, against the
+//!                                static library and against walks
 //!   renamed --count N --seed S   tables in another order and by other names: the static library's answers, moved
 //!   stats --count N --seed S     how often each refusal is met
 //!   speed --count N --seed S --on TEXT --picture FILE
 //!                                the time of the library's period search and of a simple planner's, on N tables of each
-//!                                family, that of the library's gap and of its places, and how both searches grow; TEXT
-//!                                says what it is measured on; where all answers agree the growth is drawn in FILE
+//!                                family, that of the library's gap, and how both searches grow; TEXT says what it is
+//!                                measured on; where all answers agree the growth is drawn in FILE
 //!   stack --count N --seed S -- PROGRAM ..
 //!                                the smallest stack on which each function of the library answers, on largest tables;
 //!                                PROGRAM .. is how this comparison is started, once for each try
@@ -43,7 +43,6 @@ mod kinds;
 mod laid;
 mod library;
 mod picture;
-mod places;
 mod pressed;
 mod renamed;
 mod runs;
@@ -52,8 +51,6 @@ mod simple;
 mod speed;
 mod stack;
 mod stats;
-mod stored;
-mod storing;
 mod times;
 mod walks;
 mod words;

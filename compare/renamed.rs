@@ -13,7 +13,7 @@ use crate::counts;
 use crate::findings::{lent, memory_for, planned, print_seen, Seen, MOST_PRINTED, NAMES};
 use crate::generate::{self, Seed};
 use crate::hex::hex;
-use crate::judge::{bytes_of, has, judge_table, number_in, numbers_of, put, read_table};
+use crate::judge::{bytes_of, has, judge_table, numbers_of, put, read_table};
 use crate::judge::{Numbers, Op, Refusal, Table, ASK, CLASH, EARLY, RACE};
 use crate::library::{self, Said};
 use crate::walks::reached_modes;
@@ -250,12 +250,11 @@ pub struct Pair<'a> {
     pub renaming: &'a Renaming,
 }
 
-/// A pair, and the period, the gap and the most places of a cell of its first table as they are said.
+/// A pair, and the period and the gap of its first table as they are said.
 struct Met<'a> {
     pair: &'a Pair<'a>,
     period: u64,
     gap: u64,
-    places: u64,
 }
 
 impl Met<'_> {
@@ -310,13 +309,7 @@ impl Met<'_> {
 /// A kind: its name, and whether a pair is of it.
 type Kind = (&'static str, fn(&Met<'_>) -> bool);
 
-const KINDS: [Kind; 29] = [
-    ("2 places or more, other order", |met| {
-        met.places > 1 && met.has_other_order()
-    }),
-    ("2 places or more, other modes", |met| {
-        met.places > 1 && met.has_other_modes()
-    }),
+const KINDS: [Kind; 27] = [
     ("all as it was", |met| met.changes() == [false; 3]),
     ("the operations alone", |met| {
         met.changes() == [true, false, false]
@@ -398,7 +391,7 @@ const KINDS: [Kind; 29] = [
 // ---- kinds of answers ---------------------------------------------------
 
 /// All answers that there are about accepted tables, i and j being operations.
-const ANSWERS: [&str; 21] = [
+const ANSWERS: [&str; 19] = [
     "judge, good",
     "judge_numbers, good",
     "write, good",
@@ -407,8 +400,6 @@ const ANSWERS: [&str; 21] = [
     "gap, good",
     "plan, good",
     "plan, ROOM",
-    "places, good",
-    "places, ROOM",
     "boards_fit, yes",
     "boards_fit, no",
     "boards_fit, ASK",
@@ -590,7 +581,6 @@ pub struct Functions {
     pub boards_fit: fn(&mut [u8], u64) -> Said,
     pub values_arrive: fn(&mut [u8], u64) -> Said,
     pub plan: fn(&mut [u8], &mut [u8]) -> Said,
-    pub places: fn(&mut [u8], &mut [u8]) -> Said,
     pub margin: fn(&mut [u8], Margin, &mut [i32; 3]) -> Said,
 }
 
@@ -603,7 +593,6 @@ const LIBRARY: Functions = Functions {
     boards_fit: library::boards_fit,
     values_arrive: library::values_arrive,
     plan: library::plan,
-    places: library::places,
     margin: library::margin,
 };
 
@@ -712,19 +701,6 @@ impl Asking<'_> {
         self.note("plan", &hex(before), &seen, &[first, second]);
     }
 
-    /// Each cell has the same places in both, into memory that is like this before; the most that a cell of the first
-    /// one has, 0 where there is no room for them.
-    fn places(&mut self, before: &[u8]) -> u64 {
-        let call = self.functions.places;
-        let mut seen =
-            self.both(|bytes| Seen::of(bytes.to_vec(), before, |s, memory| call(s, lent(memory))));
-        let bytes = &lent(&mut seen[0].memory)[..];
-        let written = 2 * self.pair.table.cells as usize * usize::from(seen[0].said.number == 0);
-        let most = bytes[..written].chunks(2).map(number_in).max();
-        self.note_same("places", &hex(before), seen, before);
-        most.unwrap_or(0)
-    }
-
     /// Handed over as numbers both are judged alike, and each is written as its own bytes.
     fn ask_numbers(&mut self, before: &[u8]) {
         let numbers = [numbers_of(self.pair.table), numbers_of(self.pair.other)];
@@ -743,8 +719,8 @@ impl Asking<'_> {
         self.note("write", &hex(before), &seen, &due);
     }
 
-    /// All questions that have an answer for accepted tables; the period, the gap and the most places of the first one.
-    fn ask_all(&mut self, seed: &mut Seed) -> (u64, u64, u64) {
+    /// All questions that have an answer for accepted tables; the period and the gap of the first one.
+    fn ask_all(&mut self, seed: &mut Seed) -> (u64, u64) {
         self.ask("judge", self.functions.judge);
         let period = self.ask("period", self.functions.period).a;
         let gap = self.ask("gap", self.functions.gap).a;
@@ -760,15 +736,10 @@ impl Asking<'_> {
             let before = memory_for(seed, length);
             self.plan(&before);
         }
-        let mut places = 0;
-        for length in drawn_rooms(seed, 2 * self.pair.table.cells as usize) {
-            let before = memory_for(seed, length);
-            places = places.max(self.places(&before));
-        }
         let length = drawn_rooms(seed, self.bytes[0].len())[1];
         let before = memory_for(seed, length);
         self.ask_numbers(&before);
-        (period, gap, places)
+        (period, gap)
     }
 }
 
@@ -814,13 +785,8 @@ pub fn compare_pair(functions: &Functions, pair: &Pair<'_>, seed: &mut Seed, fou
         bytes: [bytes_of(pair.table), bytes_of(pair.other)],
         found,
     };
-    let (period, gap, places) = asking.ask_all(seed);
-    found.note_kinds(&Met {
-        pair,
-        period,
-        gap,
-        places,
-    });
+    let (period, gap) = asking.ask_all(seed);
+    found.note_kinds(&Met { pair, period, gap });
     if !pair.renaming.is_one_to_one(pair.table) && found.differs() {
         println!("not one to one: {:?}", pair.renaming);
     }

@@ -58,12 +58,12 @@ impl Starts for &[u64] {
 }
 
 /// An operation of a cycle starts t ticks after the cycle.
-pub fn start_of(table: &Table, who: Instance, starts: impl Starts) -> u64 {
+fn start_of(table: &Table, who: Instance, starts: impl Starts) -> u64 {
     table.ops[who.op].start + starts.of(who.cycle)
 }
 
 /// Where an instance ends when the cycles start so.
-pub fn end_of(table: &Table, who: Instance, starts: impl Starts) -> u64 {
+fn end_of(table: &Table, who: Instance, starts: impl Starts) -> u64 {
     start_of(table, who, starts) + table.ops[who.op].dur
 }
 
@@ -101,7 +101,7 @@ fn pairs_on_a_board(table: &Table, all: &[Instance]) -> Vec<(Instance, Instance)
 
 /// "the last write of that cell that ended at or before the reader's start; with
 /// none, the initial value", among the writes of all cycles, when these start so.
-pub fn last_ended(
+fn last_ended(
     table: &Table,
     all: &[Instance],
     reader: Instance,
@@ -167,8 +167,8 @@ fn deciders(table: &Table, all: &[Instance]) -> Vec<Instance> {
 /// A run, laid out.
 pub struct Run<'a> {
     pub table: &'a Table,
-    pub modes: Vec<u64>,
     pub all: Vec<Instance>,
+    cycles: usize,
     pairs: Vec<(Instance, Instance)>,
     pub sources: Vec<Source>,
     deciders: Vec<Instance>,
@@ -181,7 +181,7 @@ impl<'a> Run<'a> {
             pairs: pairs_on_a_board(table, &all),
             sources: sources(table, &all),
             deciders: deciders(table, &all),
-            modes: modes.to_vec(),
+            cycles: modes.len(),
             table,
             all,
         }
@@ -230,7 +230,7 @@ impl<'a> Run<'a> {
 
     /// How many gaps there are from one cycle to the next.
     pub fn gaps(&self) -> usize {
-        self.modes.len() - 1
+        self.cycles - 1
     }
 
     /// One instance has ended when another starts.
@@ -242,8 +242,7 @@ impl<'a> Run<'a> {
     /// the cycle before has ended".
     pub fn decides_in_turn(&self, q: u64) -> bool {
         let mut neighbours = self.deciders.windows(2);
-        self.deciders.len() == self.modes.len()
-            && neighbours.all(|two| self.is_over(two[0], two[1], q))
+        self.deciders.len() == self.cycles && neighbours.all(|two| self.is_over(two[0], two[1], q))
     }
 
     /// The decider of this instance's own cycle has ended when it starts.

@@ -2,10 +2,8 @@
 //! What the tables of `examples/` fold to stands in their comments and is checked there.
 
 use crate::against::Margin;
-use crate::answers::{boards_fit, fold, gap, margin, pairs_of_bytes, places, plan};
-use crate::answers::{
-    reply_bytes, text, unfold, values_arrive, LONGEST_PLAIN, LONGEST_REPLY, LONGEST_STARTS,
-};
+use crate::answers::{boards_fit, fold, gap, margin, plan, reply_bytes, start_bytes, text};
+use crate::answers::{unfold, values_arrive, LONGEST_PLAIN, LONGEST_REPLY, LONGEST_STARTS};
 use crate::answers::{LONGEST_TABLE, LONGEST_TEXT};
 use crate::asking::lines_are_as_said;
 use crate::blamed;
@@ -21,13 +19,10 @@ use crate::kinds::Shown;
 use crate::laid;
 use crate::library::Said;
 use crate::picture::{escaped, svg, tick, Panel, Point};
-use crate::places;
 use crate::pressed::{self, Ask};
 use crate::renamed::{compare_pair, drawn_renaming, Found, Functions, Pair, Renaming};
 use crate::runs::{enough_cycles, taken_from, Run};
 use crate::stack;
-use crate::stored::{self, Met, Rules, REQUESTED};
-use crate::storing;
 use crate::times::{readable, timed, worked, Times, ROUNDS};
 use crate::walks::{self, period, right};
 use crate::words::{decimal, printed, LIST};
@@ -57,7 +52,6 @@ impl Tally {
         self.check(name, boards_fit(bytes, 0).map(|_| ()) == expected);
         self.check(name, values_arrive(bytes, 0).map(|_| ()) == expected);
         self.check(name, gap(bytes).map(|_| ()) == expected);
-        self.check(name, places(bytes, &mut []).map(|_| ()) == expected);
         let line = format!("refused {} {} {}\n", figures.0, figures.1, figures.2);
         self.check(name, text(bytes) == line);
     }
@@ -1440,7 +1434,7 @@ fn round_trips(tally: &mut Tally, seed: &mut Seed) {
         "unfold",
         unfold(&reply[..count], &mut starts) == Ok(2 * table.ops.len()),
     );
-    let expected = pairs_of_bytes(table.ops.iter().map(|op| op.start));
+    let expected = start_bytes(table.ops.iter().map(|op| op.start));
     tally.check("starts", starts[..expected.len()] == expected[..]);
     tally.check("p is right", right(&table, table.len));
     let numbers = numbers_of(&table);
@@ -1617,7 +1611,7 @@ fn renamed_by_hand(tally: &mut Tally) {
     let said = |order: [usize; 4]| {
         let line = |(op, row): (usize, usize)| format!("op {} {}\n", op, rows[row]);
         let lines: String = order.into_iter().enumerate().map(line).collect();
-        format!("period 5\n{}cell 0 places 1\n", lines)
+        format!("period 5\n{}", lines)
     };
     tally.check(
         "before",
@@ -1660,16 +1654,11 @@ const PLANNER: Functions = Functions {
     boards_fit: |s, q| said_of(boards_fit(s, q).map(usize::from)),
     values_arrive: |s, q| said_of(values_arrive(s, q).map(usize::from)),
     plan: |s, out| said_of(plan(s, out)),
-    places: planned_places,
     margin: planned_margin,
 };
 
 fn planned_gap(s: &mut [u8]) -> Said {
     said_of(gap(s).map(|gap| gap as usize))
-}
-
-fn planned_places(s: &mut [u8], out: &mut [u8]) -> Said {
-    said_of(places(s, out))
 }
 
 fn planned_margin(s: &mut [u8], asked: Margin, places: &mut [i32; 3]) -> Said {
@@ -1825,16 +1814,6 @@ fn plan_long(s: &mut [u8], out: &mut [u8]) -> Said {
     said
 }
 
-/// One byte more than the places have is written where operation 0 decides.
-fn places_long(s: &mut [u8], out: &mut [u8]) -> Said {
-    let said = planned_places(s, out);
-    let decides = judge(s).map_or(false, |table| table.decider == Some(0));
-    if let Some(byte) = out.get_mut(said.a as usize).filter(|_| decides) {
-        *byte ^= 1;
-    }
-    said
-}
-
 /// The table as it is changed, where it is accepted as it was; it is not judged again.
 fn changed_table(s: &[u8], change: fn(&mut Table)) -> Result<Table, Refusal> {
     judge(s).map(|mut table| {
@@ -1866,7 +1845,7 @@ fn changed_gap(s: &[u8], change: fn(&mut Table)) -> Said {
 }
 
 /// Libraries with a fault each: the planner, and one function in the place of its own.
-const FAULTY: [(&str, fn(&mut Functions)); 24] = [
+const FAULTY: [(&str, fn(&mut Functions)); 20] = [
     ("rows by their starts", |it| it.plan = plan_sorted),
     ("a short buffer is written to", |it| it.plan = plan_cut),
     ("a byte behind the reply", |it| it.plan = plan_long),
@@ -1916,30 +1895,6 @@ const FAULTY: [(&str, fn(&mut Functions)); 24] = [
             said
         }
     }),
-    ("places go by the count of boards", |it| {
-        it.places = |s, out| {
-            let said = planned_places(s, out);
-            if said.number == 0 {
-                out[1] = out[1].max(s[8]);
-            }
-            said
-        }
-    }),
-    ("places change their input", |it| {
-        it.places = |s, out| {
-            let said = planned_places(s, out);
-            s[0] ^= 1;
-            said
-        }
-    }),
-    ("a short buffer gets places", |it| {
-        it.places = |s, out| {
-            let said = planned_places(s, out);
-            out.iter_mut().for_each(|byte| *byte ^= said.number as u8);
-            said
-        }
-    }),
-    ("a byte behind the places", |it| it.places = places_long),
     ("boards are forgotten from 4 on", |it| {
         it.boards_fit = |s, q| changed_at(s, q, forget_boards, walks::boards_fit)
     }),
@@ -2235,291 +2190,6 @@ fn pressed_well(tally: &mut Tally, seed: &mut Seed) {
     tally.check("pressed well", found.differences() == 0);
 }
 
-// ---- stored values ------------------------------------------------------
-
-/// Each value is read late, by one that starts early and ends late and by one that starts late and ends early.
-const LAST_READER: &str = "0100020006 020003030101 0300080000000100000001 \
-    040012 0000 0001 0001 00000000 00000001 00000001 \
-    040012 0001 0005 0002 00000001 00000000 00000001 \
-    040012 0002 0001 0004 00000001 00000000 00000001";
-
-/// The first write of a cycle starts, and is done, before the second of the cycle before starts.
-const NOT_IN_TIME: &str = "0100020006 020003030101 0300080000000100000001 \
-    040012 0000 0001 0001 00000000 00000001 00000001 \
-    040012 0005 0001 0002 00000000 00000001 00000001 \
-    040012 0000 0003 0004 00000000 00000000 00000001";
-
-/// The write at the end of a cycle meets the first of the next cycle and that of the next but one, 1 and 3 writes later:
-/// 2 places are enough, and 3 are not.
-const NOT_THREE: &str = "0100020005 020003030101 0300080000000100000001 \
-    040012 0000 0001 0001 00000000 00000001 00000001 \
-    040012 0004 0001 0002 00000000 00000001 00000001 \
-    040012 0000 0002 0004 00000000 00000000 00000001";
-
-/// One step reads what the cycle before wrote, and writes it again.
-const OWN_READ: &str = "0100020003 020003010101 0300080000000100000001 \
-    040012 0000 0001 0001 00000001 00000001 00000001";
-
-/// The first cycle reads the initial value to tick 3, and all later cycles write, from tick 1 on. The other cell is not
-/// used.
-const INITIAL: &str = "0100020004 020003020202 03000c 00000001 00000002 00000002 \
-    040012 0002 0001 0001 00000001 00000000 00000001 \
-    040012 0000 0001 0002 00000000 00000001 00000002";
-
-/// Tables with the period and the places that they have, worked out by hand.
-const PLACES: [(&str, u64, &[u64]); 11] = [
-    (LAST_READER, 5, &[2]),
-    (NOT_IN_TIME, 3, &[2]),
-    (NOT_THREE, 2, &[2]),
-    (OWN_READ, 1, &[1]),
-    (INITIAL, 1, &[3, 1]),
-    (K1, 3, &[]),
-    (include_str!("../examples/k02.hex"), 2, &[2, 2]),
-    (include_str!("../examples/k03.hex"), 4, &[1, 1]),
-    (include_str!("../examples/k07.hex"), 3, &[1]),
-    (include_str!("../examples/k08.hex"), 3, &[2]),
-    (BEFORE_RENAMING, 5, &[1]),
-];
-
-fn places_by_hand(tally: &mut Tally) {
-    for (text, q, due) in PLACES {
-        let table = judge(&from_hex(text)).expect("it is accepted");
-        let name = format!("places {:?} at {}", due, q);
-        tally.check(&name, period(&table) == q);
-        tally.check(&name, places::at(&table, q) == due);
-        tally.check(&name, stored::places_by(&table, q, REQUESTED) == due);
-    }
-    let table = judge(&from_hex(NOT_THREE)).expect("it is accepted");
-    let met = &stored::all_met(&table, 2, 5, &[REQUESTED])[0][0];
-    let enough = [1, 2, 3, 4].map(|places| met.is_enough(places));
-    tally.check("2 and not 3", enough == [false, true, false, true]);
-    let table = judge(&from_hex(INITIAL)).expect("it is accepted");
-    tally.check("no initial", places::without_initial(&table, 1) == [1, 1]);
-}
-
-/// The buffer is one byte too short, just long enough, or longer.
-fn places_written(tally: &mut Tally) {
-    let bytes = from_hex(INITIAL);
-    let mut out = [7; 5];
-    let room = Err(refusal_of((8, 4, 0)));
-    tally.check("3 bytes", places(&bytes, &mut out[..3]) == room);
-    tally.check("3 bytes kept", out == [7; 5]);
-    tally.check("5 bytes", places(&bytes, &mut out) == Ok(4));
-    tally.check("5 bytes written", out == [0, 3, 0, 1, 7]);
-    tally.check("no cells", places(&k1(), &mut []) == Ok(0));
-    let lines = "op 1 start 0 fst 0\ncell 0 places 3\ncell 1 places 1\n";
-    tally.check("lines of cells", text(&bytes).ends_with(lines));
-}
-
-/// With so many writes that none may come on the place of a value that is still read: the differences are 1 to all of
-/// some thousands, and the modes change nothing where all of them write alike.
-fn most_places(tally: &mut Tally) {
-    let table = generate::most_places(1000, 1, true);
-    tally.check(
-        "most, accepted",
-        judge(&bytes_of(&table)).as_ref() == Ok(&table),
-    );
-    tally.check("most, period", right(&table, 1));
-    let all = places::at(&table, 1);
-    tally.check("most, places", all.iter().all(|it| *it > 15_000));
-    let modes = generate::most_places(1000, 32, true);
-    tally.check("most, modes", places::at(&modes, 1) == all);
-}
-
-/// Places by a number for each cell of an accepted table, at its period.
-fn said_places(s: &[u8], out: &mut [u8], places: fn(&Table, u64) -> Vec<u64>) -> Said {
-    let answer = judge(s).map(|table| places(&table, period(&table)));
-    said_of(answer.and_then(|places| put(&pairs_of_bytes(places.into_iter()), out)))
-}
-
-/// The places of the table as it is changed, at the period that it has as it was.
-fn changed_places(table: &Table, q: u64, change: fn(&mut Table)) -> Vec<u64> {
-    let mut table = table.clone();
-    change(&mut table);
-    places::at(&table, q)
-}
-
-/// What meets in the cells of a table.
-fn met_in(table: &Table, q: u64) -> Vec<Met> {
-    let cycles = stored::enough_cycles(table, q);
-    stored::all_met(table, q, cycles, &[REQUESTED]).remove(0)
-}
-
-/// The last step that writes does not in one of its modes.
-fn one_write_less(table: &mut Table) {
-    let last = table.ops.iter_mut().rev().find(|op| op.writes != 0);
-    if let Some(op) = last {
-        op.modes &= op.modes - 1;
-    }
-}
-
-/// A number of places is enough where the very next write to a place never meets the value there. For if one after that
-/// does, it starts before the life is over; then the next write meets the value too, or starts later than that one, which
-/// then meets the next write's value.
-fn next_is_enough(met: &Met, places: u64) -> bool {
-    !met.all().any(|it| (it.write - it.value) as u64 == places)
-}
-
-/// One more than the largest number that is not enough.
-fn all_enough_from(met: &Met) -> u64 {
-    let most = met.all().map(|it| it.write as u64).max().unwrap_or(0);
-    let few = (1..=most).rev().find(|places| !met.is_enough(*places));
-    few.unwrap_or(0) + 1
-}
-
-/// Places with a fault each.
-const FAULTY_PLACES: [(&str, fn(&Table, u64) -> Vec<u64>); 18] = [
-    ("readers left out", |table, q| {
-        let readers = false;
-        stored::places_by(
-            table,
-            q,
-            Rules {
-                readers,
-                ..REQUESTED
-            },
-        )
-    }),
-    ("the ends of writes left out", |table, q| {
-        let writes = false;
-        stored::places_by(
-            table,
-            q,
-            Rules {
-                writes,
-                ..REQUESTED
-            },
-        )
-    }),
-    ("a step conflicts with its own read", |table, q| {
-        let own_read = true;
-        stored::places_by(
-            table,
-            q,
-            Rules {
-                own_read,
-                ..REQUESTED
-            },
-        )
-    }),
-    ("the last reader by its start", |table, q| {
-        let last_by_start = true;
-        stored::places_by(
-            table,
-            q,
-            Rules {
-                last_by_start,
-                ..REQUESTED
-            },
-        )
-    }),
-    ("later writes in time only", |table, q| {
-        let in_time = true;
-        stored::places_by(
-            table,
-            q,
-            Rules {
-                in_time,
-                ..REQUESTED
-            },
-        )
-    }),
-    ("cycles one apart only, for places", |table, q| {
-        let apart = 1;
-        stored::places_by(table, q, Rules { apart, ..REQUESTED })
-    }),
-    ("unreached modes counted, for places", |table, q| {
-        changed_places(table, q, storing::reach_all)
-    }),
-    ("values kept in holds", |table, q| {
-        changed_places(table, q, storing::use_in_holds)
-    }),
-    ("one cycle's writes counted short", |table, q| {
-        changed_places(table, q, one_write_less)
-    }),
-    ("the initial value left out", places::without_initial),
-    ("all enough from it on", |table, q| {
-        met_in(table, q).iter().map(all_enough_from).collect()
-    }),
-    ("p for the period", |table, _| places::at(table, table.len)),
-    ("the gap for the period", |table, _| {
-        places::at(table, gaps::gap(table))
-    }),
-    ("one place too many", |table, q| {
-        places::at(table, q).iter().map(|it| it + 1).collect()
-    }),
-    ("one place too few", |table, q| {
-        places::at(table, q)
-            .iter()
-            .map(|it| it.max(&2) - 1)
-            .collect()
-    }),
-    ("cells the other way round", |table, q| {
-        places::at(table, q).into_iter().rev().collect()
-    }),
-    ("always 1 place", |table, _| vec![1; table.cells as usize]),
-    ("always 0 places", |table, _| vec![0; table.cells as usize]),
-];
-
-/// Answers with a fault beside right places.
-const FAULTY_SAID: [(&str, fn(&mut [u8], &mut [u8]) -> Said); 3] = [
-    ("places, tables refused", |_, _| {
-        said_of(Err(refusal_of((10, 0, 0))))
-    }),
-    ("places, the number of cells told", |s, out| {
-        let said = planned_places(s, out);
-        Said {
-            a: said.a / 2,
-            ..said
-        }
-    }),
-    ("places, the least significant byte first", |s, out| {
-        let said = planned_places(s, out);
-        out.chunks_mut(2).for_each(<[u8]>::reverse);
-        said
-    }),
-];
-
-/// Compares the places of a drawn table and its runs.
-fn stored_once(ask: storing::Ask<'_>, seed: &mut Seed, found: &mut storing::Found) {
-    let table = generate::storing(seed);
-    storing::compare_table(ask, &table, period(&table), false, found);
-}
-
-/// A fault in places is told by the planner, and by runs that are laid out.
-fn check_faulty_places(tally: &mut Tally, name: &str, ask: storing::Ask<'_>) {
-    let (mut seed, mut found) = (Seed::new(1), storing::Found::new(0));
-    let mut drawn = 0;
-    while drawn < MOST_DRAWN && (found.by_planner == 0 || found.by_runs == 0) {
-        stored_once(ask, &mut seed, &mut found);
-        drawn += 1;
-    }
-    tally.check(&format!("{}, by the planner", name), found.by_planner > 0);
-    tally.check(&format!("{}, by runs", name), found.by_runs > 0);
-}
-
-fn faulty_places(tally: &mut Tally) {
-    for (name, fault) in FAULTY_PLACES {
-        let ask = |s: &mut [u8], out: &mut [u8]| said_places(s, out, fault);
-        check_faulty_places(tally, name, &ask);
-    }
-    for (name, ask) in FAULTY_SAID {
-        check_faulty_places(tally, name, &ask);
-    }
-    tally.check("nothing stored", !storing::Found::new(0).is_good());
-}
-
-/// Nothing differs where all is well.
-fn stored_well(tally: &mut Tally, seed: &mut Seed) {
-    let mut found = storing::Found::new(5);
-    stored_once(&planned_places, seed, &mut found);
-    tally.check("stored well", found.differences() == 0);
-    let table = generate::storing(seed);
-    let all = met_in(&table, period(&table));
-    let same = |met: &Met| (1..20).all(|it| next_is_enough(met, it) == met.is_enough(it));
-    tally.check("next write to a place", all.iter().all(same));
-}
-
 // ---- what is measured with ----------------------------------------------
 
 /// A table is accepted and has these counts: length, boards, cells, modes, operations.
@@ -2690,7 +2360,7 @@ fn little_stack(tally: &mut Tally) {
 }
 
 /// The checks that draw nothing.
-const FIXED: [fn(&mut Tally); 52] = [
+const FIXED: [fn(&mut Tally); 48] = [
     hexadecimal,
     bench_k1,
     bench_answers,
@@ -2736,10 +2406,6 @@ const FIXED: [fn(&mut Tally); 52] = [
     gaps_by_hand,
     runs_at_dates,
     faulty_gaps,
-    places_by_hand,
-    places_written,
-    most_places,
-    faulty_places,
     timing,
     times,
     pictures,
@@ -2756,9 +2422,6 @@ fn drawn(tally: &mut Tally, seed: &mut Seed) {
         renamed_and_back(tally, seed);
         runs_at_periods(tally, seed);
         gap_by_delays(tally, seed);
-    }
-    for _ in 0..500 {
-        stored_well(tally, seed);
     }
     for _ in 0..50 {
         within_sizes(tally, seed);

@@ -1,17 +1,15 @@
-//! The time of the library's period search, beside that of a simple planner and that of the library's gap and of its
-//! places, on the same tables in the same program. On the largest tables the gap may take no longer than the period.
+//! The time of the library's period search, beside that of a simple planner and that of the library's gap, on the same
+//! tables in the same program. On the largest tables the gap may take no longer than the period.
 //!
 //! All timing comes before the first thread: under an emulator every access is slower once a program has started one. The
 //! test with little stack, which needs threads, comes last.
 
-use crate::answers::{pairs_of_bytes, LONGEST_PLACES};
 use crate::gaps;
 use crate::generate::{self, Seed};
 use crate::judge::{bytes_of, Op, Table};
 use crate::library::{self, Said};
 use crate::options;
 use crate::picture::{self, Panel, Point};
-use crate::places;
 use crate::simple;
 use crate::stack;
 use crate::times::{ratio, readable, timed, Times, MOST_CALLS, ROUND, ROUNDS};
@@ -61,12 +59,11 @@ fn asked(args: &[String]) -> Option<Asked> {
 
 // ---- all on the same tables ---------------------------------------------
 
-/// What both took for the period of some tables, the library for the gap and for the places, and what was answered.
+/// What both took for the period of some tables, the library for the gap, and what was answered.
 #[derive(Default)]
 struct Measured {
     library: Times,
     gap: Times,
-    places: Times,
     simple: Times,
     periods: Vec<u64>,
     differ: bool,
@@ -81,14 +78,8 @@ fn answer(said: Said) -> u64 {
     }
 }
 
-/// The places that are said, and none where the table is refused.
-fn told_places(bytes: &mut [u8], out: &mut [u8; LONGEST_PLACES]) -> Vec<u8> {
-    let written = answer(library::places(bytes, out)) as usize;
-    out[..written].to_vec()
-}
-
 /// All on each table in turn. The library is handed bytes, which it also reads and judges; the simple planner is handed
-/// what they say. The gap and the places are held to those of this folder's planner, which are not timed.
+/// what they say. The gap is held to that of this folder's planner, which is not timed.
 fn measure(tables: &[Table]) -> Measured {
     let mut measured = Measured::default();
     for table in tables {
@@ -97,11 +88,6 @@ fn measure(tables: &[Table]) -> Measured {
         measured.library.push(seconds);
         let (gap, seconds) = timed(|| answer(library::gap(&mut bytes)));
         measured.gap.push(seconds);
-        let mut out = [0; LONGEST_PLACES];
-        let (_, seconds) = timed(|| answer(library::places(&mut bytes, &mut out)));
-        measured.places.push(seconds);
-        let due = pairs_of_bytes(places::at(table, q.max(1)).into_iter());
-        measured.differ |= told_places(&mut bytes, &mut out) != due;
         let (simple_q, seconds) = timed(|| simple::period(table));
         measured.simple.push(seconds);
         measured.periods.push(q);
@@ -124,19 +110,13 @@ impl Measured {
 
     fn print(&self) {
         let (quick, slow, gap) = (&self.library, &self.simple, &self.gap);
-        let places = &self.places;
         println!(
             "            {:>10} {:>10} {:>10}",
             "mean", "median", "worst"
         );
-        for (name, times) in [
-            ("library", quick),
-            ("its gap", gap),
-            ("its places", places),
-            ("simple", slow),
-        ] {
+        for (name, times) in [("library", quick), ("its gap", gap), ("simple", slow)] {
             let all = [times.mean(), times.median(), times.worst()].map(readable);
-            println!("  {:<10} {:>9} {:>10} {:>10}", name, all[0], all[1], all[2]);
+            println!("  {:<9} {:>10} {:>10} {:>10}", name, all[0], all[1], all[2]);
         }
         println!(
             "  simple / library: {} of the means, {} of the medians, {} on the table where it is least",
@@ -149,12 +129,6 @@ impl Measured {
             ratio(gap.mean() / quick.mean()),
             ratio(gap.worst() / quick.worst()),
             ratio(gap.most_ratio(quick)),
-        );
-        println!(
-            "  places / period: {} of the means, {} of the worst, {} on the table where it is most",
-            ratio(places.mean() / quick.mean()),
-            ratio(places.worst() / quick.worst()),
-            ratio(places.most_ratio(quick)),
         );
     }
 
@@ -233,44 +207,6 @@ fn hard() -> Measured {
         ratio(gap / quick)
     );
     measured
-}
-
-/// The tables with most places, which are not drawn, and drawn ones with thousands. True where no answer differs.
-fn stocked(asked: &Asked) -> bool {
-    let mut same = true;
-    let most = generate::most_places;
-    for (what, table) in [
-        (
-            "16 writes of each cell, all in each of 32 modes",
-            most(1000, 32, true),
-        ),
-        (
-            "16 writes of each cell, most of them in half of 32 modes",
-            most(1000, 32, false),
-        ),
-        (
-            "16 writes of each cell, all in the only mode",
-            most(1000, 1, true),
-        ),
-        (
-            "15 writes of each cell in one mode, and 30 modes without",
-            generate::handed_down(1000),
-        ),
-    ] {
-        let measured = measure(&[table]);
-        println!(
-            "\nmost places, {} (generate::most_places, handed_down)",
-            what
-        );
-        measured.print();
-        same &= !measured.differ;
-    }
-    let drawn = measure(&asked.tables(asked.growth_count(), generate::stocked));
-    println!("\nthousands of places: short operations on boards of their own (generate::stocked)");
-    println!("  {} tables, seed {}", asked.growth_count(), asked.seed);
-    drawn.print_periods();
-    drawn.print();
-    same && !drawn.differ
 }
 
 /// Whether the gap takes no longer than the period: by the means of the first family, which is that of the largest
@@ -384,7 +320,7 @@ fn print_rule(asked: &Asked) {
     } else {
         "optimised"
     };
-    println!("the period search of the library, beside that of a simple planner (simple.rs), its gap and its places");
+    println!("the period search of the library, beside that of a simple planner (simple.rs), and its gap");
     println!("measured on {}", asked.on);
     println!("compiled for {}, {}", std::env::consts::ARCH, built);
     println!(
@@ -436,9 +372,8 @@ pub fn speed_command(args: &[String]) -> bool {
     let mut all: Vec<Measured> = families.collect();
     all.push(hard());
     let no_longer = gap_is_no_longer(&all);
-    let stored = stocked(&asked);
     let (panels, agree) = all_growth(&asked);
-    let same = agree && stored && all.iter().all(|measured| !measured.differ);
+    let same = agree && all.iter().all(|measured| !measured.differ);
     println!();
     println!("{}", if same { "all agree" } else { "they differ" });
     let written = same && write_picture(&asked, &panels);

@@ -12,7 +12,7 @@
 //!
 //! To add a function: its name in NAMES, and how it is called in `with_room`, `address_of` and `arguments`.
 
-use crate::answers::LONGEST_TEXT;
+use crate::answers::LONGEST_TABLE;
 use crate::generate::{self, Seed};
 use crate::judge::{bytes_of, numbers_of, Numbers, Op, Table};
 use crate::library::{self, c, Said};
@@ -23,9 +23,8 @@ use std::io::Write;
 use std::process::{Command, Stdio};
 
 /// What is measured, in the order in which it is printed.
-const NAMES: [&str; 12] = [
+const NAMES: [&str; 11] = [
     "plan",
-    "places",
     "fold",
     "period",
     "gap",
@@ -47,7 +46,7 @@ const MOST: usize = 64 * 1024;
 /// The bytes of stack that include/trevozhil.h says to reserve, and how many of them are left to others: to memcpy and
 /// memset, which another C library has otherwise, and to a loader that looks them up at the first call and may keep
 /// every register on the stack meanwhile. Here they are looked up before.
-pub const RESERVE: usize = 20 * 1024;
+pub const RESERVE: usize = 16 * 1024;
 const OTHERS: usize = 4 * 1024;
 
 /// How many bytes of a thread's stack are closed. Every frame is smaller, so that no call gets across.
@@ -144,9 +143,9 @@ struct Asked {
 /// What a call tells, and the bytes that it may write.
 type Answer = (Said, Vec<u8>);
 
-/// Bytes that may be written, enough for every answer: a text is the longest.
+/// Bytes that may be written, enough for every answer.
 fn memory() -> Vec<u8> {
-    vec![0; LONGEST_TEXT]
+    vec![0; LONGEST_TABLE]
 }
 
 /// The bytes of the reply to a table.
@@ -188,7 +187,6 @@ fn with_room(name: &str, asked: &mut Asked) -> Answer {
     let [i, j, n] = MARGIN;
     let said = match name {
         "plan" => library::plan(bytes, &mut out),
-        "places" => library::places(bytes, &mut out),
         "fold" => library::fold(bytes, &mut out),
         "period" => library::period(bytes),
         "gap" => library::gap(bytes),
@@ -211,7 +209,6 @@ fn with_room(name: &str, asked: &mut Asked) -> Answer {
 fn address_of(name: &str) -> usize {
     match name {
         "plan" => c::trevozhil_plan as *const () as usize,
-        "places" => c::trevozhil_places as *const () as usize,
         "fold" => c::trevozhil_fold as *const () as usize,
         "period" => c::trevozhil_period as *const () as usize,
         "gap" => c::trevozhil_gap as *const () as usize,
@@ -238,7 +235,7 @@ fn arguments(name: &str, asked: &Asked, out: [usize; 2]) -> Vec<usize> {
     let decider = [n.mark, n.decider].map(|number| number as usize);
     let margin = MARGIN.map(|number| number as usize);
     match name {
-        "plan" | "places" | "fold" | "unfold" => [table, out].concat(),
+        "plan" | "fold" | "unfold" => [table, out].concat(),
         "boards_fit" | "values_arrive" => [&table[..], &[q]].concat(),
         "margin" => [&table[..], &margin, &[q], &out[..1]].concat(),
         "judge_numbers" => [&counts[..], &follow, &ops, &holds, &decider].concat(),
@@ -287,9 +284,8 @@ fn near_table() -> Table {
     }
 }
 
-/// Drawn largest tables, every second one with a decider, the one in which every period below p is wrong, the one
-/// with the smallest period, and one with thousands of places; and half as many longest ones, in which each operation has
-/// a hold.
+/// Drawn largest tables, every second one with a decider, the one in which every period below p is wrong, and the one
+/// with the smallest period; and half as many longest ones, in which each operation has a hold.
 fn tables(count: u64, mut seed: Seed) -> Vec<Table> {
     let mut held = seed.clone();
     let drawn = |turn| match (turn % 2, generate::largest(&mut seed)) {
@@ -299,11 +295,7 @@ fn tables(count: u64, mut seed: Seed) -> Vec<Table> {
     let drawn = (0..count).map(drawn);
     let held = (0..(count + 1) / 2).map(|_| generate::longest_held(&mut held));
     drawn
-        .chain([
-            hard_table(),
-            near_table(),
-            generate::most_places(1000, 32, true),
-        ])
+        .chain([hard_table(), near_table()])
         .chain(held)
         .collect()
 }

@@ -8,7 +8,7 @@ use std::os::unix::ffi::OsStringExt;
 
 /// What can be asked: printed on standard error where the words are no question.
 pub const LIST: &str = "\
-fold: the period, the rows and the places of the table on standard input
+fold: the period and the rows of the table on standard input
 fold boards Q: do the boards fit at period Q
 fold values Q: do the values arrive at period Q
 fold margin I J N Q: ticks left from the end of step I to the start of step J, N cycles later, at period Q

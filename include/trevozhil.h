@@ -83,18 +83,15 @@ extern "C" {
 /* The starts of the most operations have this many bytes; each has 2. */
 #define TREVOZHIL_LONGEST_STARTS 64
 
-/* The places of the most cells have this many bytes; each has 2. */
-#define TREVOZHIL_LONGEST_PLACES 64
-
-/* No text has more bytes than this: 12 for the line of the period, 24 for each operation and 21 for each cell. */
-#define TREVOZHIL_LONGEST_TEXT 1452
+/* No text has more bytes than this: 12 for the line of the period and 24 for each operation. */
+#define TREVOZHIL_LONGEST_TEXT 780
 
 /*
  * So many bytes of stack below the caller serve each function. That is measured, with this library as it is built for
- * x86-64, and not proved: its own functions take up to 14,896, the rest is for the C library's memcpy and memset and for
+ * x86-64, and not proved: its own functions take up to 12,176, the rest is for the C library's memcpy and memset and for
  * a loader that binds them at the first call. Signal handlers come on top.
  */
-#define TREVOZHIL_STACK 20480
+#define TREVOZHIL_STACK 16384
 
 /*
  * Judges a table's bytes: the s_len bytes at s.
@@ -172,17 +169,6 @@ uint32_t trevozhil_values_arrive(const uint8_t *s, size_t s_len, uint64_t q, uin
 uint32_t trevozhil_plan(const uint8_t *s, size_t s_len, uint8_t *out, size_t out_len, uint64_t *a, uint64_t *b);
 
 /*
- * Writes to out, which has room for out_len bytes, how many places each stored value needs at the period: for each
- * cell, in cell order, the smallest number of places, 2 bytes each, the most significant first. Value w of a cell (the
- * writes counted from 1 in the order of the plain run, 0 the initial value) is kept in place w mod that number; no
- * later write to a place starts before the value in it is done with, in any run of modes. It is from 1 to 32,001.
- * Answers 0 where they are written, or a refusal from 1 to 8, or EARLY; ROOM comes last. Where it answers 0 the first
- * *a bytes of out are the numbers, and the others are as they were; a table without cells has none. Where it refuses,
- * every byte of out is as it was.
- */
-uint32_t trevozhil_places(const uint8_t *s, size_t s_len, uint8_t *out, size_t out_len, uint64_t *a, uint64_t *b);
-
-/*
  * Unfolds a reply, the s_len bytes at s: writes the starts that its rows came from to out, 2 bytes each, the most
  * significant first, in the order of the rows.
  * Answers 0 where they are written, or a refusal from 1 to 5 of the reply's fields, or ROOM, which comes last. Where it
@@ -204,8 +190,8 @@ uint32_t trevozhil_margin(const uint8_t *s, size_t s_len, uint64_t i, uint64_t j
 
 /*
  * Writes to out, which has room for out_len bytes, the text that the program fold prints for a table's bytes: the line
- * `period q`, a line `op i start s fst f` for each operation, and behind them a line `cell c places r` for each cell;
- * or the line `refused n a b`. Each line ends with a line feed, and no byte 0 follows.
+ * `period q` and a line `op i start s fst f` for each operation, or the line `refused n a b`. Each line ends with a
+ * line feed, and no byte 0 follows.
  * A refusal of the table is told inside the text: the function then answers 0, and the text is the line `refused n a b`
  * with the number and the two figures of that refusal. The only refusal that it answers is ROOM, which
  * TREVOZHIL_LONGEST_TEXT bytes rule out. Where it answers 0 the first *a bytes of out are the text, and the others are

@@ -1,7 +1,7 @@
 /*
  * Folds the table in a file, or on standard input where no file is named. Prints the text of the program fold: the
- * period, a line for each operation and one for each cell, or one line `refused n a b`. Where the table is accepted, it
- * reads the rows of the reply, unfolds the reply again, and says whether the table's starts came back from both.
+ * period and a line for each operation, or one line `refused n a b`. Where the table is accepted, it reads the rows of
+ * the reply, unfolds the reply again, and says whether the table's starts came back from both.
  */
 #include <stdio.h>
 #include <string.h>

@@ -1,12 +1,12 @@
 //! Folds the table in a file, or on standard input where no file is named. Prints the text of the
-//! program fold: the period, a line for each operation and one for each cell, or one line
-//! `refused n a b`. Where the table is accepted, it reads the rows of the reply, unfolds the reply
-//! again, and says whether the table's starts came back from both.
+//! program fold: the period and a line for each operation, or one line `refused n a b`. Where the
+//! table is accepted, it reads the rows of the reply, unfolds the reply again, and says whether the
+//! table's starts came back from both.
 
 use std::io::{Read, Write};
 
 /// No text has more bytes than this; replies and starts are shorter.
-const TREVOZHIL_LONGEST_TEXT: usize = 1452;
+const TREVOZHIL_LONGEST_TEXT: usize = 780;
 
 // Each writes the bytes that it answers to out, and 0 or the number of a refusal is what it returns:
 // include/trevozhil.h says it all.

@@ -1,4 +1,6 @@
 // The bound of the values, raised by the readers of one value at one distance.
+#![tactic(auto)]
+
 ghost use Rattle.std.specs.Prelude.{◌≡◌, true, ◌≤◌, get_or};
 ghost use Rattle.rules.specs.Sets.{shares};
 ghost use Rattle.columns.specs.Columns.{Short};

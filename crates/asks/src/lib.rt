@@ -1,4 +1,6 @@
 // What is asked for, against its range.
+#![tactic(auto)]
+
 ghost use Rattle.std.specs.Prelude.{◌≡◌, true, ◌↔◌, ◌≤◌};
 
 // From 1 to a bound: a distance to 1000, a period to the table's length.

@@ -4,7 +4,7 @@ use Rattle.std.specs.Prelude.{ℕ, ◌≡◌, Bool, List, ℤ}
 use Rattle.rules.specs.Table.{Table}
 use Rattle.rules.specs.Verdicts.{Verdict}
 use Rattle.rules.specs.Judge.{judge, Numbers, judge_numbers}
-use Rattle.rules.specs.Answers.{Written, IsPlan, IsStored, IsFold, IsUnfold, IsWrite, IsMargin, IsPeriodOf, IsGapOf, YesNo, Fit, Arrive}
+use Rattle.rules.specs.Answers.{Written, IsPlan, IsFold, IsUnfold, IsWrite, IsMargin, IsPeriodOf, IsGapOf, YesNo, Fit, Arrive}
 use Rattle.figures.specs.declared.Figures.{Figures}
 use Rattle.telling.specs.Telling.{told_of, unwritten, yes_of, Ended, ended_of, ended_with}
 
@@ -25,10 +25,6 @@ WriteEnds N out l = (w : Written) × IsWrite N out w × (l ≡ ended_of w)
 -- trevozhil_plan
 abbrev pub PlanEnds : List ℕ → List ℕ → Ended (List ℕ) → Type 0
 PlanEnds s out l = (w : Written) × IsPlan s out w × (l ≡ ended_of w)
-
--- trevozhil_places
-abbrev pub PlacesEnds : List ℕ → List ℕ → Ended (List ℕ) → Type 0
-PlacesEnds s out l = (w : Written) × IsStored s out w × (l ≡ ended_of w)
 
 -- trevozhil_fold
 abbrev pub FoldEnds : List ℕ → List ℕ → Ended (List ℕ) → Type 0

@@ -2,7 +2,7 @@
 ghost use Rattle.figures.specs.Figures.{figures_of};
 ghost use Rattle.handed.specs.Handed.{numbers};
 ghost use Rattle.telling.specs.Telling.{ended};
-ghost use Rattle.calls.specs.Calls.{JudgeTells, NumbersTell, WriteEnds, PlanEnds, PlacesEnds, FoldEnds, UnfoldEnds, PeriodTells, GapTells, BoardsTell, ValuesTell, MarginEnds};
+ghost use Rattle.calls.specs.Calls.{JudgeTells, NumbersTell, WriteEnds, PlanEnds, FoldEnds, UnfoldEnds, PeriodTells, GapTells, BoardsTell, ValuesTell, MarginEnds};
 
 // A table's bytes, judged.
 pub fn judge(s: &[u8], a: &mut u64, b: &mut u64) -> u32
@@ -99,14 +99,6 @@ pub fn plan(s: &[u8], out: &mut [u8], a: &mut u64, b: &mut u64) -> u32
 {
     let reply = planner::plan(s, out);
     telling::tell(telling::answer_told(reply), a, b)
-}
-
-// The places of a table's cells.
-pub fn places(s: &[u8], out: &mut [u8], a: &mut u64, b: &mut u64) -> u32
-    ensures { PlacesEnds s.now out.old (ended (figures_of result a.new b.new) out.new) }
-{
-    let numbers = planner::places(s, out);
-    telling::tell(telling::answer_told(numbers), a, b)
 }
 
 // The text that the program `fold` prints for a table.

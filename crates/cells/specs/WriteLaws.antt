@@ -3,7 +3,7 @@
 use Rattle.std.specs.Prelude.{ℕ, zero, suc, ◌+◌, ◌^◌, ◌<◌, ◌≡◌, refl, Bool, true, ◌&&◌, ◌↔◌, List, [], ◌∷◌, ltb, length, get_or}
 use Rattle.std.proofs.Math.Path.{sym, ap, subst⁻¹}
 use Rattle.std.proofs.Common.{subst, ◌∙◌, arith}
-use Rattle.std.proofs.Math.Bool.{and_true}
+use Rattle.std.proofs.Math.Bool.{and-true}
 use Rattle.std.specs.Int.Bits.{bit_or}
 use borrow.Author.Tests.{lt-ltb, le-leb}
 use Rattle.rules.specs.Sets.{has, In}
@@ -98,7 +98,7 @@ module _ (T : Table) (ok : Accepted T) {cols : List ℕ} (C : Columns T cols) (c
       rw (
         lt-ltb 0 (end_of (op T u)) (omega (arith, (ok.each u l).lasts)),
         le-leb (end_of (op T u)) 1000 (omega (arith, (ok.each u l).fits, ok.len_high)),
-        and_true (has (op T u).writes c),
+        and-true (has (op T u).writes c),
       ))
 
   -- of those of i, the ones in which it is the last to write c
@@ -110,7 +110,7 @@ module _ (T : Table) (ok : Accepted T) {cols : List ℕ} (C : Columns T cols) (c
       (ended_modes (end_of (op T i)) 1000
       ∙ modes_same _ _ T.ops
       (λ u l.
-      rw (le-leb (end_of (op T u)) 1000 (omega (arith, (ok.each u l).fits, ok.len_high)), and_true (ltb (end_of (op T i)) (end_of (op T u))))))
+      rw (le-leb (end_of (op T u)) 1000 (omega (arith, (ok.each u l).fits, ok.len_high)), and-true (ltb (end_of (op T i)) (end_of (op T u))))))
 
   -- of those of j, the ones in which no write of c ends by its start
   pub ended_fresh : (j : ℕ) → j < 32 → fresh_of cols W j ≡ fresh_in T c j

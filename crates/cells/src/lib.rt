@@ -1,5 +1,7 @@
 // A cell: which operations read and write it, the modes in which it is written between two dates, and those in which a reader finds what an
 // earlier cycle left there. Everything is asked of lent columns, and only the operations that use the cell are visited.
+#![tactic(auto)]
+
 ghost use Rattle.std.specs.Prelude.{◌≡◌, ◌<◌, ◌≤◌, length};
 ghost use Rattle.columns.specs.Columns.{Short};
 ghost use Rattle.cells.specs.Cells.{Added, Turned, modes_within, ended_in, last_of, fresh_of, FreshSets, Early};

@@ -1,5 +1,7 @@
 // A table's operations in columns, made once for a table and lent from then on: a column for each of the seven numbers, with the dates at which it ends
 // and lets go of its boards in place of duration and hold, 32 entries each.
+#![tactic(auto)]
+
 ghost use Rattle.std.specs.Prelude.{◌≡◌, map, ◌<◌, ◌≤◌, length, take};
 ghost use Rattle.rules.specs.Table.{Table, end_of, held_to};
 ghost use Rattle.table.specs.Tables.{op_of};

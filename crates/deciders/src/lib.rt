@@ -1,4 +1,6 @@
 // Document 02, No. 4: who decides, behind a table's operations: field 05 of its bytes, or a number that is handed over with a mark.
+#![tactic(auto)]
+
 ghost use Rattle.std.specs.Prelude.{◌≡◌, ◌+◌, ◌<◌, ◌≤◌, length};
 ghost use Rattle.rules.specs.Table.{decides};
 ghost use Rattle.rules.specs.Verdicts.{accepted};

@@ -1,4 +1,6 @@
 // Document 02, No. 4: the decider runs in every mode, and no other operation that does not starts before its end.
+#![tactic(auto)]
+
 ghost use Rattle.std.specs.Prelude.{◌≡◌, ◌<◌, ◌≤◌};
 ghost use Rattle.rules.specs.Judge.{early_test};
 ghost use Rattle.fields.specs.Verdicts.{tested};

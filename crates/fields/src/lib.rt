@@ -1,4 +1,6 @@
 // Fields: numbers in bytes, and the tests of one field in document 01's order.
+#![tactic(auto)]
+
 ghost use Rattle.std.specs.Prelude.{◌≡◌, ◌+◌, ◌^◌, ◌<◌, ◌≤◌, length};
 ghost use Rattle.rules.specs.Bytes.{num8, num16, num32};
 ghost use Rattle.rules.specs.Judge.{ranged};
@@ -6,7 +8,7 @@ ghost use Rattle.fields.specs.Verdicts.{tested};
 ghost use Rattle.fields.specs.Fields.{sized_of, field_of, repeat_of};
 
 // A refusal: its name in the documents, and its a and b where they are not always 0.
-#[derive(Drop)]
+#[derive(Clone, Copy)]
 pub enum Refusal {
     Short(usize),
     Order(usize),
@@ -20,14 +22,14 @@ pub enum Refusal {
     Early(usize, usize),
 }
 
-#[derive(Drop)]
+#[derive(Clone, Copy)]
 pub enum Verdict {
     Accepted,
     Refused(Refusal),
 }
 
 // What a function that writes answers: the number of bytes written, or a refusal.
-#[derive(Drop)]
+#[derive(Clone, Copy)]
 pub enum Answer {
     Wrote(usize),
     Denied(Refusal),

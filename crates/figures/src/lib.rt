@@ -1,4 +1,6 @@
 // A refusal, or an answer, in numbers: what is printed of it, and what a C caller is told.
+#![tactic(auto)]
+
 ghost use Rattle.std.specs.Prelude.{◌≡◌, ℕ};
 ghost use Rattle.rules.specs.Verdicts.{refused};
 ghost use Rattle.fields.specs.Verdicts.{refusal_of};
@@ -7,7 +9,7 @@ ghost use Rattle.figures.specs.Figures.{figures_of};
 use fields::Refusal;
 
 // An answer in numbers: that of the refusal, or 0, and two figures.
-#[derive(Drop)]
+#[derive(Clone, Copy)]
 pub struct Figures {
     pub number: u32,
     pub a: u64,

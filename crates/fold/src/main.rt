@@ -1,5 +1,5 @@
 // Reads at most 4096 bytes of standard input and prints what the words behind the program's name ask about them; without words the
-// period, the rows and the places of a table. Words that ask nothing get the list of what can be asked, and nothing is read.
+// period and the rows of a table. Words that ask nothing get the list of what can be asked, and nothing is read.
 ghost use Rattle.std.specs.Prelude.{◌≡◌, length};
 
 use libc::STDIN_FILENO;

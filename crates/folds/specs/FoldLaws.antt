@@ -4,10 +4,11 @@ use Rattle.std.specs.Prelude.{ℕ, ◌≡◌, refl, List, take}
 use Rattle.std.proofs.Common.{ap, ◌∙◌}
 use Rattle.std.proofs.Math.Path.{subst⁻¹}
 use Rattle.rules.specs.Table.{Table}
+use Rattle.rules.specs.Rows.{Reply, reply_of}
 use Rattle.rules.specs.Verdicts.{Verdict, accepted, refused}
 use Rattle.rules.specs.Judge.{judge}
-use Rattle.rules.specs.Text.{Listing, text_of}
-use Rattle.rules.specs.Answers.{Answers, Listed, IsText}
+use Rattle.rules.specs.Text.{text_of}
+use Rattle.rules.specs.Answers.{Answers, Planned, IsText}
 use Rattle.fields.specs.Verdicts.{refusal_of}
 use Rattle.fields.specs.declared.Refusal.{Refusal}
 use Rattle.fields.specs.RefusalLaws.{refusal_is}
@@ -20,18 +21,22 @@ use Rattle.folds.specs.Folds.{TableText, TextFor}
 pub text_refused : (s : List ℕ) (r : Refusal) (t : Text) → judge s ≡ refusal_of r → t ≡ text_in (text_of (refusal_of r)) → TextFor s t
 unfolding Answers
 text_refused s r t e f =
-    let (n, a, b, x, y) = refusal_is {A = Listing} {B = Table} r in (
+    let (n, a, b, x, y) = refusal_is {A = Reply} {B = Table} r in (
       text_of (refusal_of r),
-      (refused n a b, subst⁻¹ (λ (u : Verdict Table). Answers Listed u (refused n a b)) (e ∙ y) refl, ap text_of x),
+      (refused n a b, subst⁻¹ (λ (u : Verdict Table). Answers Planned u (refused n a b)) (e ∙ y) refl, ap text_of x),
       f,
     )
 
--- the text of an accepted table's listing is the text
+-- the text of an accepted table's reply is the text
 pub text_accepted : (s : List ℕ) (T : Table) (t : Text) → judge s ≡ accepted T → TableText T t → TextFor s t
 unfolding Answers text_of
-text_accepted s T t e (L, listed, f) = (
-  text_of (accepted L),
-  (accepted L, subst⁻¹ (λ (u : Verdict Table). Answers Listed u (accepted L)) e (L, listed, refl), refl),
+text_accepted s T t e (q, period, f) = (
+  text_of (accepted (reply_of T q)),
+  (
+    accepted (reply_of T q),
+    subst⁻¹ (λ (u : Verdict Table). Answers Planned u (accepted (reply_of T q))) e (reply_of T q, (q, period, refl), refl),
+    refl,
+  ),
   f,
 )
 

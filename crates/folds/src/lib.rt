@@ -9,17 +9,16 @@ use rows::Ticks;
 use table::Table;
 use text::Text;
 
-// The text of an accepted table: its period and rows, and the places of its cells.
+// The text of an accepted table's reply.
 fn table_text(t: Table) -> Text
     requires { Good t }
     ensures { TableText (table_of t) result }
 {
     let q = period::smallest(t);
-    let places = places::each(t, q);
-    text::listing_text(t, Ticks(q), &places)
+    text::reply_text(t, Ticks(q))
 }
 
-// What the program `fold` prints for a table's bytes: the period, the rows and the places, or the refusal's line.
+// What the program `fold` prints for a table's bytes: the period and the rows, or the refusal's line.
 pub fn text_of(s: &[u8]) -> Text
     ensures { TextFor s.now result }
 {

@@ -1,4 +1,6 @@
 // The operations of a table handed over as numbers, six for each and beside them a mark and a hold, judged one after the other.
+#![tactic(auto)]
+
 ghost use Rattle.std.specs.Prelude.{◌≡◌, cond, ◌+◌, ◌*◌, ◌<◌, ◌≤◌, length};
 ghost use Rattle.rules.specs.Judge.{op_wrong};
 ghost use Rattle.fields.specs.Verdicts.{tested};

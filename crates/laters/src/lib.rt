@@ -1,4 +1,6 @@
 // For each operation the set of those that may meet it on a board in a later cycle.
+#![tactic(auto)]
+
 ghost use Rattle.std.specs.Prelude.{◌≡◌, true, ◌↔◌, ◌<◌, ◌≤◌, length};
 ghost use Rattle.columns.specs.Columns.{Short};
 ghost use Rattle.laters.specs.Laters.{MayMeet, LaterOf, AllLater, AllEmpty};

@@ -7,7 +7,7 @@ use Rattle.rules.specs.Text.{decimal, period_word, newline, period_line}
 use Rattle.theory.proofs.Text.{decimal_small, decimal_more, period_line_lem}
 use Rattle.puts.specs.Puts.{stored}
 use Rattle.puts.specs.PutLaws.{stored_then}
-use Rattle.lines.specs.Lines.{Puts, pair_of, line_of}
+use Rattle.lines.specs.Lines.{Puts, line_of}
 
 -- bytes behind bytes
 pub puts_then : (out : List ℕ) (at : ℕ) (xs ys : List ℕ) {mid end : List ℕ} {m n : ℕ} → Puts out mid at m xs → Puts mid end m n ys
@@ -46,11 +46,6 @@ module _ (out : List ℕ) (at : ℕ) where
       → Puts out end at n (period_line q)
   period_put q a b = rw (period_line_lem q) (puts_then out at (period_word ++ decimal q) newline a b)
 
-  pub pair_put : (u : List ℕ) (x : ℕ) (v : List ℕ) (y : ℕ) {one two end : List ℕ} {m k n : ℕ}
-      → Puts out one at m (u ++ decimal x) → Puts one two m k (v ++ decimal y) → Puts two end k n newline → Puts out end at n (pair_of u x v y)
-  pair_put u x v y a b c =
-      puts_then out at (u ++ decimal x ++ (v ++ decimal y)) newline (puts_then out at (u ++ decimal x) (v ++ decimal y) a b) c
-
   pub line_put : (u : List ℕ) (x : ℕ) (v : List ℕ) (y : ℕ) (w : List ℕ) (z : ℕ) {one two three end : List ℕ} {m k l n : ℕ}
       → Puts out one at m (u ++ decimal x) → Puts one two m k (v ++ decimal y) → Puts two three k l (w ++ decimal z)
       → Puts three end l n newline → Puts out end at n (line_of u x v y w z)
@@ -58,10 +53,6 @@ module _ (out : List ℕ) (at : ℕ) where
       let first = puts_then out at (u ++ decimal x) (v ++ decimal y) a b in
       let all = puts_then out at (u ++ decimal x ++ (v ++ decimal y)) (w ++ decimal z) first c in
       puts_then out at (u ++ decimal x ++ (v ++ decimal y) ++ (w ++ decimal z)) newline all d
-
-pub pair_length : (u : List ℕ) (x : ℕ) (v : List ℕ) (y : ℕ) → length (pair_of u x v y) ≡ length (u ++ decimal x) + length (v ++ decimal y) + 1
-pair_length u x v y =
-    length-append (u ++ decimal x ++ (v ++ decimal y)) newline ∙ omega (arith, length-append (u ++ decimal x) (v ++ decimal y))
 
 pub line_length : (u : List ℕ) (x : ℕ) (v : List ℕ) (y : ℕ) (w : List ℕ) (z : ℕ)
     → length (line_of u x v y w z) ≡ length (u ++ decimal x) + length (v ++ decimal y) + length (w ++ decimal z) + 1

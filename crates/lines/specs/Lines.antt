@@ -8,10 +8,6 @@ use Rattle.puts.specs.Puts.{stored}
 abbrev pub Puts : List ℕ → List ℕ → ℕ → ℕ → List ℕ → Type 0
 Puts out end at n bytes = (end ≡ stored out at bytes) × (n ≡ at + length bytes)
 
--- two words, each with a number behind it, and the end of the line
-abbrev pub pair_of : List ℕ → ℕ → List ℕ → ℕ → List ℕ
-pair_of u x v y = u ++ decimal x ++ (v ++ decimal y) ++ newline
-
 -- three words, each with a number behind it, and the end of the line
 abbrev pub line_of : List ℕ → ℕ → List ℕ → ℕ → List ℕ → ℕ → List ℕ
 line_of u x v y w z = u ++ decimal x ++ (v ++ decimal y) ++ (w ++ decimal z) ++ newline

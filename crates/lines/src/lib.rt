@@ -1,8 +1,8 @@
 // The lines of the text: numbers in decimal behind words, each line at a place in a buffer.
 ghost use Rattle.std.specs.Prelude.{◌++◌, ◌+◌, ◌<◌, ◌≤◌, length};
-ghost use Rattle.rules.specs.Text.{decimal, row_line, period_line, refused_line, cell_line};
+ghost use Rattle.rules.specs.Text.{decimal, row_line, period_line, refused_line};
 ghost use Rattle.rows.specs.Rows.{row_of};
-ghost use Rattle.lines.specs.Lines.{Puts, pair_of, line_of};
+ghost use Rattle.lines.specs.Lines.{Puts, line_of};
 
 use figures::Figures;
 use rows::{Row, Ticks};
@@ -51,25 +51,6 @@ pub fn put_period_line(out: &mut [u8], at: usize, q: Ticks) -> usize
 {
     let end = put_part(out, at, b"period ", q.0 as u64);
     put_bytes(out, end, b"\n")
-}
-
-// A line of two words, each with a number behind it.
-pub fn put_pair(out: &mut [u8], at: usize, u: &[u8], x: u64, v: &[u8], y: u64) -> usize
-    requires { at + length (pair_of u.now x v.now y) ≤ length out.old }
-    ensures { Puts out.old out.new at result (pair_of u.now x v.now y) }
-{
-    let first = put_part(out, at, u, x);
-    let second = put_part(out, first, v, y);
-    put_bytes(out, second, b"\n")
-}
-
-// "cell c places r", 21 bytes at most
-pub fn put_cell_line(out: &mut [u8], at: usize, c: usize, r: u32) -> usize
-    requires { (at + 21 ≤ length out.old) × (c < 100) × (r < 100000) }
-    ensures { Puts out.old out.new at result (cell_line c r) }
-{
-    let places = r as u64;
-    put_pair(out, at, b"cell ", c as u64, b" places ", places)
 }
 
 // A line of three words, each with a number behind it.

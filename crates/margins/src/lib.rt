@@ -10,7 +10,7 @@ ghost use Rattle.margins.specs.Margins.{measured_of, gap};
 use fields::{Refusal, Verdict};
 use table::{Op, Table};
 
-#[derive(Drop)]
+#[derive(Clone, Copy)]
 pub enum Measured {
     Margin(i32),
     Denied(Refusal),

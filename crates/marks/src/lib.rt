@@ -1,4 +1,6 @@
 // Periods at which the boards are wrong, marked: each by the two operations that would hold one board at once some cycles apart.
+#![tactic(auto)]
+
 ghost use Rattle.std.specs.Prelude.{◌≡◌, true, ◌↔◌, ◌<◌, ◌≤◌, length};
 ghost use Rattle.columns.specs.Columns.{op_by, Short};
 ghost use Rattle.marks.specs.Marks.{Adds, Meets, Near, Keeps, Hits, HitBy};

@@ -1,4 +1,6 @@
 // Two operations: whether they clash, and whether they race.
+#![tactic(auto)]
+
 ghost use Rattle.std.specs.Prelude.{◌≡◌};
 ghost use Rattle.rules.specs.Sets.{overlaps};
 ghost use Rattle.rules.specs.Judge.{clashes, races};

@@ -4,10 +4,9 @@ use Prim.Native.Nat.{ℕ}
 use mathlib.Core.Path.{◌≡◌, sym, ap, ◌∙◌}
 use mathlib.Core.List.{List}
 use Rattle.rules.specs.Judge.{Numbers}
-use Rattle.rules.specs.Answers.{IsPlan, IsStored, IsFold, IsUnfold, IsWrite, IsMargin, IsPeriodOf, IsGapOf, BoardsFit, ValuesArrive}
-use Rattle.theory.proofs.Answering.{plan_unique, unfold_unique, write_unique, margin_unique, period_of_unique, gap_of_unique, boards_unique, values_unique}
-use Rattle.lives.proofs.Listings.{stored_unique, text_unique, fold_unique}
-use Rattle.lives.proofs.Saying.{said_unique}
+use Rattle.rules.specs.Answers.{IsPlan, IsFold, IsUnfold, IsWrite, IsMargin, IsPeriodOf, IsGapOf, BoardsFit, ValuesArrive}
+use Rattle.theory.proofs.Answering.{plan_unique, text_unique, fold_unique, unfold_unique, write_unique, margin_unique, period_of_unique, gap_of_unique, boards_unique, values_unique}
+use Rattle.theory.proofs.Saying.{said_unique}
 use Rattle.fields.specs.declared.Answer.{Answer}
 use Rattle.fields.specs.Verdicts.{answered, leaving}
 use Rattle.fields.proofs.Told.{leaving_one}
@@ -30,9 +29,6 @@ use Rattle.saying.specs.Said.{SaidFor}
 module _ (x y : Answer) (end fin : List ℕ) where
   pub plan_one : (s out : List ℕ) → IsPlan s out (leaving (answered x) end) → IsPlan s out (leaving (answered y) fin) → (x ≡ y) × (end ≡ fin)
   plan_one s out p q = leaving_one x y end fin (plan_unique s out _ _ p q)
-
-  pub places_one : (s out : List ℕ) → IsStored s out (leaving (answered x) end) → IsStored s out (leaving (answered y) fin) → (x ≡ y) × (end ≡ fin)
-  places_one s out p q = leaving_one x y end fin (stored_unique s out _ _ p q)
 
   pub fold_one : (s out : List ℕ) → IsFold s out (leaving (answered x) end) → IsFold s out (leaving (answered y) fin) → (x ≡ y) × (end ≡ fin)
   fold_one s out p q = leaving_one x y end fin (fold_unique s out _ _ p q)

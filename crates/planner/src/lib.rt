@@ -1,6 +1,6 @@
 // The planner: the public functions. Each promise is a definition of `rules` about the answer, told in document 01's numbers.
 ghost use Rattle.std.specs.Prelude.{◌≡◌, [], ◌∷◌};
-ghost use Rattle.rules.specs.Answers.{IsPlan, IsStored, IsFold, IsUnfold, IsMargin, IsPeriodOf, IsGapOf, BoardsFit, ValuesArrive, IsWrite};
+ghost use Rattle.rules.specs.Answers.{IsPlan, IsFold, IsUnfold, IsMargin, IsPeriodOf, IsGapOf, BoardsFit, ValuesArrive, IsWrite};
 ghost use Rattle.fields.specs.Verdicts.{answered, leaving};
 ghost use Rattle.handed.specs.Handed.{numbers};
 ghost use Rattle.questions.specs.Questions.{truth_of, found_of};
@@ -22,16 +22,9 @@ pub fn plan(s: &[u8], out: &mut [u8]) -> Answer
     plans::plan(s, out)
 }
 
-// The places of a table's cells at its period, 2 bytes each, from the front of the buffer. On a refusal every byte of it stays.
-pub fn places(s: &[u8], out: &mut [u8]) -> Answer
-    ensures { IsStored s.now out.old (leaving (answered result) out.new) }
-{
-    stores::places(s, out)
-}
+// ---- a table's bytes in, the text of its reply or of its refusal out
 
-// ---- a table's bytes in, the text of its listing or of its refusal out
-
-// What the program `fold` prints: the period, the rows and the places, or the refusal's line.
+// What the program `fold` prints: the period and the rows, or the refusal's line.
 pub fn text(s: &[u8]) -> Text
     ensures { TextFor s.now result }
 {

@@ -1,8 +1,8 @@
 -- The reply to an accepted table, and how plan goes on from the verdict on the bytes.
 -- Assumes nothing.
-use Rattle.std.specs.Prelude.{ℕ, ◌+◌, ◌*◌, ◌<◌, ◌≤◌, ◌≡◌, List, ◌++◌, length, drop}
-use Rattle.std.proofs.Math.Path.{refl, ap, subst⁻¹}
-use Rattle.std.proofs.Common.{sym, ◌∙◌, arith}
+use Rattle.std.specs.Prelude.{ℕ, ◌+◌, ◌*◌, ◌<◌, ◌≤◌, ◌≡◌, refl, List, ◌++◌, length, drop}
+use Rattle.std.proofs.Common.{sym, ap, ◌∙◌, arith}
+use Rattle.std.proofs.Math.Path.{subst⁻¹}
 use Rattle.rules.specs.Table.{Table, nops, Accepted}
 use Rattle.rules.specs.Runs.{IsPeriod}
 use Rattle.rules.specs.Rows.{reply_of}
@@ -43,27 +43,21 @@ module _ (T : Table) (out : List ℕ) where
             ∙ sym (put_room (reply_bytes (reply_of T q)) out (omega arith)),
       )
 
--- ---- from the verdict on the bytes: what is answered of an accepted table, whatever that is, and how it is written
-module _ {A : Type 0} (P : Table → A → Type 0) (f : A → List ℕ) where
-  -- a refusal of the table is the answer, and the buffer stays
-  pub answer_refused : (s out : List ℕ) (r : Refusal) → judge s ≡ refusal_of r
-      → (v : Verdict A) × Answers P (judge s) v × (leaving (refusal_of r) out ≡ written (bytes_of f v) out)
-  unfolding Answers bytes_of written onwards
-  answer_refused s out r e =
-      let (n, a, b, x, y) = refusal_is {A = ℕ} {B = Table} r in (
-        refused n a b,
-        subst⁻¹ (λ (u : Verdict Table). Answers P u (refused n a b)) (e ∙ y) refl,
-        ap (λ (u : Verdict ℕ). leaving u out) x,
-      )
-
-  -- what is put for an accepted table is the answer
-  pub answer_accepted : (s out : List ℕ) (T : Table) (w : Written) (x : A) → judge s ≡ accepted T → P T x → w ≡ put (f x) out
-      → (v : Verdict A) × Answers P (judge s) v × (w ≡ written (bytes_of f v) out)
-  unfolding Answers bytes_of written onwards
-  answer_accepted s out T w x e is g = (accepted x, subst⁻¹ (λ (u : Verdict Table). Answers P u (accepted x)) e (x, is, refl), g)
-
+-- a refusal of the table is the answer, and the buffer stays
 pub plan_refused : (s out : List ℕ) (r : Refusal) → judge s ≡ refusal_of r → IsPlan s out (leaving (refusal_of r) out)
-plan_refused = answer_refused Planned reply_bytes
+unfolding Answers bytes_of written onwards
+plan_refused s out r e =
+    let (n, a, b, x, y) = refusal_is {A = ℕ} {B = Table} r in (
+      refused n a b,
+      subst⁻¹ (λ (u : Verdict Table). Answers Planned u (refused n a b)) (e ∙ y) refl,
+      ap (λ (u : Verdict ℕ). leaving u out) x,
+    )
 
+-- the reply to an accepted table is the answer
 pub plan_accepted : (s out : List ℕ) (T : Table) (w : Written) → judge s ≡ accepted T → Plans T out w → IsPlan s out w
-plan_accepted s out T w e (q, period, f) = answer_accepted Planned reply_bytes s out T w (reply_of T q) e (q, period, refl) f
+unfolding Answers bytes_of written onwards
+plan_accepted s out T w e (q, period, f) = (
+  accepted (reply_of T q),
+  subst⁻¹ (λ (u : Verdict Table). Answers Planned u (accepted (reply_of T q))) e (reply_of T q, (q, period, refl), refl),
+  f,
+)

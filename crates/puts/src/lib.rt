@@ -1,4 +1,6 @@
 // Bytes stored into a lent buffer, at a place: numbers, most significant byte first, and the header of a field.
+#![tactic(auto)]
+
 ghost use Rattle.std.specs.Prelude.{◌≡◌, [], ◌∷◌, ◌+◌, ◌<◌, ◌≤◌, length};
 ghost use Rattle.rules.specs.Bytes.{be16, be32};
 ghost use Rattle.puts.specs.Puts.{stored};

@@ -7,14 +7,14 @@ ghost use Rattle.questions.specs.Questions.{truth_of, found_of};
 use fields::{Refusal, Verdict};
 use table::{Judged, Table};
 
-#[derive(Drop)]
+#[derive(Clone, Copy)]
 pub enum Truth {
     Is(bool),
     Denied(Refusal),
 }
 
 // A number of ticks that was asked for, or the refusal.
-#[derive(Drop)]
+#[derive(Clone, Copy)]
 pub enum Found {
     Ticks(u32),
     Denied(Refusal),

@@ -1,4 +1,6 @@
 // A bound for periods, raised until an operation in a later cycle comes in time.
+#![tactic(auto)]
+
 ghost use Rattle.std.specs.Prelude.{◌≤◌};
 ghost use Rattle.raises.specs.Raises.{Raised, InTime};
 

@@ -1,5 +1,7 @@
 // The ranges of document 01, tested before a number is held. Each test answers which number is wrong first: where it begins in its field, behind
 // the tag and the length, or 0 where none is wrong.
+#![tactic(auto)]
+
 ghost use Rattle.std.specs.Prelude.{◌≡◌, ◌≤◌};
 ghost use Rattle.rules.specs.Judge.{len_wrong, counts_wrong, op_wrong};
 ghost use Rattle.theory.specs.Holds.{Plain};
@@ -9,7 +11,7 @@ ghost use Rattle.ranges.specs.Ranges.{wide_of, counted, dates_of, used_at, sets_
 use table::Op;
 
 // An operation's numbers before they are judged, and whether a hold is among them; where none is, it is 0.
-#[derive(Drop)]
+#[derive(Clone, Copy)]
 pub struct Wide {
     pub start: u64,
     pub dur: u64,

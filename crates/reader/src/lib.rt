@@ -1,11 +1,13 @@
 // The field reader: the lent bytes and a place in them. Its functions are thin: the tests are those of `fields`, on a slice and a place.
+#![tactic(auto)]
+
 ghost use Rattle.std.specs.Prelude.{◌≡◌, ◌<◌, ◌≤◌, length};
 ghost use Rattle.fields.specs.Verdicts.{tested};
 ghost use Rattle.fields.specs.Fields.{field_of, repeat_of};
 
 use fields::Verdict;
 
-#[derive(Drop)]
+#[derive(Clone, Copy)]
 pub struct Reader<'a> {
     pub src: &'a [u8],
     pub at: usize,

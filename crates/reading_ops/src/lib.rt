@@ -1,4 +1,6 @@
 // One operation's field in a table's bytes: its form, which its length tells, its numbers, and whether they are in range.
+#![tactic(auto)]
+
 ghost use Rattle.std.specs.Prelude.{◌≡◌, ◌+◌, ◌<◌, ◌≤◌, length};
 ghost use Rattle.rules.specs.Bytes.{op_size, held_at, read_op};
 ghost use Rattle.ranges.specs.Ranges.{wide_of, counted};
@@ -9,7 +11,7 @@ use ranges::Wide;
 use table::Op;
 
 // The next operation, or why there is none.
-#[derive(Drop)]
+#[derive(Clone, Copy)]
 pub enum Next {
     Here(Op),
     Bad(Refusal),

@@ -1,18 +1,20 @@
 // Rows: dates in ticks and start indices in cycles, kept apart; fold and unfold convert by the period only.
+#![tactic(auto)]
+
 ghost use Rattle.std.specs.Prelude.{◌≡◌, ◌≤◌};
 ghost use Rattle.rules.specs.Rows.{fold_at, unfold_at};
 ghost use Rattle.rules.specs.Judge.{row_wrong};
 ghost use Rattle.rows.specs.Rows.{ticks_of, row_of, InFields};
 
 // A date.
-#[derive(Drop)]
+#[derive(Clone, Copy)]
 pub struct Ticks(pub u32);
 
 // A start index.
-#[derive(Drop)]
+#[derive(Clone, Copy)]
 pub struct Cycles(pub u32);
 
-#[derive(Drop)]
+#[derive(Clone, Copy)]
 pub struct Row {
     pub start: Ticks,
     pub fst: Cycles,

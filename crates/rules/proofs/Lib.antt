@@ -1,4 +1,3 @@
 pub mod Tried
 pub mod TriedRenamed
 pub mod TriedGaps
-pub mod TriedPlaces

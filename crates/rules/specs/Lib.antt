@@ -2,7 +2,6 @@ pub mod Sets
 pub mod Table
 pub mod Runs
 pub mod Gaps
-pub mod Places
 pub mod Better
 pub mod Rows
 pub mod Renamed

@@ -1,4 +1,4 @@
--- Document 01, "The program": the text that `fold` prints, as bytes of ASCII. Document 02, No. 1: the lines of the cells.
+-- Document 01, "The program": the text that `fold` prints, as bytes of ASCII.
 -- Assumes nothing.
 use Rattle.std.specs.Prelude.{ℕ, zero, suc, ◌+◌, ◌/◌, ◌%◌, Bool, cond, List, [], ◌∷◌, ◌++◌, ltb, ℤ, pos, negsuc}
 use Rattle.rules.specs.Rows.{Ticks, Row, Reply, starts_of}
@@ -76,39 +76,13 @@ unfolding refused_line
 told f (accepted x) = f x
 told f (refused number a b) = refused_line number a b
 
--- ---- document 02, No. 1: "The listing gets a line `cell c places r` for each cell after the operations."
+unfoldable pub text_of : Verdict Reply → List ℕ
+unfolding told reply_text
+text_of v = told reply_text v
 
--- "cell "
-abbrev pub cell_word : List ℕ
-cell_word = 99 ∷ 101 ∷ 108 ∷ 108 ∷ 32 ∷ []
-
--- " places "
-abbrev pub places_word : List ℕ
-places_word = 32 ∷ 112 ∷ 108 ∷ 97 ∷ 99 ∷ 101 ∷ 115 ∷ 32 ∷ []
-
-unfoldable pub cell_line : ℕ → ℕ → List ℕ
-unfolding decimal
-cell_line c r = cell_word ++ decimal c ++ places_word ++ decimal r ++ newline
-
-abbrev pub cell_lines : ℕ → List ℕ → List ℕ
-cell_lines c rs = each_line cell_line c rs
-
--- a reply, and the places of cells 0, 1, ..
-pub record Listing : Type 0 where
-  pub reply : Reply
-  pub places : List ℕ
-
-unfoldable pub listing_text : Listing → List ℕ
-unfolding reply_text each_line cell_line
-listing_text L = reply_text L.reply ++ cell_lines 0 L.places
-
-unfoldable pub text_of : Verdict Listing → List ℕ
-unfolding told listing_text
-text_of v = told listing_text v
-
--- no text for a table's bytes is longer: 12 bytes for the period's line, 24 for each of 32 rows, and 21 for each of 32 cells
+-- no text for a table's bytes is longer: 12 bytes for the period's line, and 24 for each of 32 rows
 abbrev pub longest_text : ℕ
-longest_text = 1452
+longest_text = 780
 
 -- ---- the answers to the other questions, each a text of its own
 

@@ -109,7 +109,7 @@ pub fn askable_text() -> Text
     ensures { result ≡ text_in askable }
 {
     bytes_text(
-        b"fold: the period, the rows and the places of the table on standard input\n\
+        b"fold: the period and the rows of the table on standard input\n\
           fold boards Q: do the boards fit at period Q\n\
           fold values Q: do the values arrive at period Q\n\
           fold margin I J N Q: ticks left from the end of step I to the start of step J, N cycles later, at period Q\n\

@@ -1,4 +1,6 @@
 // Sets of boards, cells or modes, each a number: m is a member of s where bit m of s is 1. Union and intersection are `|` and `&`.
+#![tactic(auto)]
+
 ghost use Rattle.std.specs.Prelude.{◌≡◌, ◌+◌, ◌^◌, ◌<◌, ◌≤◌, eqb, ltb, get_or};
 ghost use Rattle.std.specs.Int.Bits.{bit_or};
 ghost use Rattle.rules.specs.Sets.{has, shares};

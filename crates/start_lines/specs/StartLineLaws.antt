@@ -1,7 +1,7 @@
 -- The line of a start, and the lines of a reply's starts one after the other.
 -- Assumes nothing.
-use Rattle.std.specs.Prelude.{ℕ, ◌+◌, ◌-◌, ◌*◌, ◌/◌, ◌^◌, ◌<◌, ◌≤◌, ◌≡◌, refl, List, [], ◌∷◌, ◌++◌, length, replicate}
-use Rattle.std.proofs.Common.{sym, ◌∙◌, append_assoc, arith, add-one, length-append, take-suc, leb-true}
+use Rattle.std.specs.Prelude.{ℕ, ◌+◌, ◌-◌, ◌*◌, ◌/◌, ◌^◌, ◌<◌, ◌≤◌, ◌≡◌, refl, List, [], ◌++◌, length, replicate}
+use Rattle.std.proofs.Common.{sym, ◌∙◌, append_assoc, arith, add-one, length-append, take-suc, length-take-le, leb-true}
 use Rattle.std.proofs.Math.Path.{ap}
 use Rattle.std.proofs.Math.ListN.{take}
 use Rattle.std.proofs.Math.Seq.{take_all}
@@ -12,13 +12,14 @@ use Rattle.rules.specs.Judge.{at_end, row_wrong, rows_from, judge_reply}
 use Rattle.rules.specs.Text.{decimal, op_word, start_word, newline, start_line, start_lines, starts_text, told, longest_text}
 use Rattle.theory.proofs.Judging.{place_even, fields_passing, fields_ended}
 use Rattle.theory.proofs.Replies.{reply_row, reply_in}
-use Rattle.theory.proofs.Text.{decimal_length}
+use Rattle.theory.proofs.Text.{decimal_length, lines_none, lines_snoc}
 use Rattle.theory.proofs.Verdicts.{then_rest, onwards_first}
 use Rattle.starts.specs.Starts.{heard}
 use Rattle.starts.specs.StartLaws.{heard_reply, starts_count, starts_at}
-use Rattle.lines.specs.Lines.{Puts, pair_of}
+use Rattle.lines.specs.Lines.{Puts}
+use Rattle.lines.specs.LineLaws.{puts_then, copy_none}
 use Rattle.text.specs.Texts.{text_in}
-use Rattle.text.specs.TextLaws.{lines_start, lines_turn, told_accepted, text_made}
+use Rattle.text.specs.TextLaws.{told_accepted, text_made}
 use Rattle.start_lines.specs.StartLines.{LinesPut}
 
 -- ---- one line
@@ -27,11 +28,18 @@ start_open : (i : ℕ) (t : Ticks) → start_line i t ≡ op_word ++ decimal i +
 unfolding start_line
 start_open i t = refl
 
-pub start_line_lem : (i : ℕ) (t : Ticks) → start_line i t ≡ pair_of op_word i start_word t.number
+-- two words, each with a number behind it, and the end of the line
+start_line_lem : (i : ℕ) (t : Ticks) → start_line i t ≡ op_word ++ decimal i ++ (start_word ++ decimal t.number) ++ newline
 start_line_lem i t = start_open i t ∙ ap (λ (l : List ℕ). l ++ newline) (append_assoc (op_word ++ decimal i) start_word (decimal t.number))
 
-start_length : (i : ℕ) (t : Ticks) → length (start_line i t) ≡ 11 + length (decimal i) + length (decimal t.number)
+pub start_length : (i : ℕ) (t : Ticks) → length (start_line i t) ≡ 11 + length (decimal i) + length (decimal t.number)
 start_length i t = omega (arith, simp length-append at (ap length (start_open i t)))
+
+pub start-put : (i : ℕ) (t : Ticks) (out : List ℕ) (at : ℕ) {one two end : List ℕ} {m k n : ℕ} → Puts out one at m (op_word ++ decimal i)
+    → Puts one two m k (start_word ++ decimal t.number) → Puts two end k n newline → Puts out end at n (start_line i t)
+start-put i t out at a b c =
+    let words = op_word ++ decimal i ++ (start_word ++ decimal t.number) in
+    rw (start_line_lem i t) (puts_then out at words newline (puts_then out at (op_word ++ decimal i) (start_word ++ decimal t.number) a b) c)
 
 -- operations below 100 and dates of 32 bits: at most 2 and 10 digits
 pub start_short : (i : ℕ) (t : Ticks) → i < 100 → t.number < 2 ^ 32 → length (start_line i t) ≤ 23
@@ -40,21 +48,23 @@ start_short i t h g = omega (arith, start_length i t, decimal_length 1 i h, deci
 -- ---- the lines of the first n rows
 module _ (s out : List ℕ) where
   pub start_lines_none : LinesPut s 0 out out 0
-  start_lines_none = record { short = omega arith; lines = λ R e. lines_start start_line (starts_of R) out 0 }
+  start_lines_none = record { short = omega arith; lines = λ R e. rw (lines_none start_line 0) (copy_none out 0 [], omega arith) }
 
-  pub start_lines_turn : (n i : ℕ) {mid end : List ℕ} {m k : ℕ} → 5 + 7 * n ≤ length s → n ≤ 32 → i < n → LinesPut s i out mid m
+  pub lines_turn : (n i : ℕ) {mid end : List ℕ} {m k : ℕ} → 5 + 7 * n ≤ length s → n ≤ 32 → i < n → LinesPut s i out mid m
       → (t : Ticks) → t.number < 2 ^ 32 → t ≡ unfold_at (ticks (num16 s 3)) (row_at s (5 + 7 * i)) → Puts mid end m k (start_line i t) → LinesPut s (i + 1) out end k
-  start_lines_turn n i {mid} {end} {m} {k} size few h front t small e line =
+  lines_turn n i {mid} {end} {m} {k} size few h front t small e line =
       record {
         short = omega (arith, front.short, line.1, start_short i t (omega arith) small);
         lines = λ R read.
             let is = reply_in s R read in
+            let starts = take i (starts_of R) in
             let inside : i < length (starts_of R) = omega (arith, starts_count is, is.size) in
             let same : t ≡ _ = e ∙ sym (starts_at is i (omega (arith, is.size))) in
-            let next : take (i + 1) (starts_of R) ≡ take i (starts_of R) ++ (t ∷ []) =
-            rw (add-one, take-suc (starts_of R) i (unfold_at R.period (row_at s 0)) inside, ← same)
+            let place : i ≡ 0 + length starts = omega (arith, length-take-le i (starts_of R) (omega arith)) in
+            let more : start_lines 0 (take (i + 1) (starts_of R)) ≡ start_lines 0 starts ++ start_line i t =
+            ap (start_lines 0) (rw (add-one, take-suc (starts_of R) i (unfold_at R.period (row_at s 0)) inside, ← same)) ∙ lines_snoc start_line starts 0 i t place
             in
-            lines_turn start_line (starts_of R) out 0 i t (omega arith) next (front.lines R read) line;
+            rw more (puts_then out 0 (start_lines 0 starts) (start_line i t) (front.lines R read) line);
       }
 
 -- ---- a reply that is accepted

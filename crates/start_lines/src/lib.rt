@@ -19,7 +19,9 @@ fn put_start_line(out: &mut [u8], at: usize, i: usize, t: Ticks) -> usize
     ensures { Puts out.old out.new at result (start_line i (ticks_of t)) }
 {
     let start = t.0 as u64;
-    lines::put_pair(out, at, b"op ", i as u64, b" start ", start)
+    let first = lines::put_part(out, at, b"op ", i as u64);
+    let second = lines::put_part(out, first, b" start ", start);
+    lines::put_bytes(out, second, b"\n")
 }
 
 // The lines of the first n rows, from the front of the buffer.

@@ -1,4 +1,6 @@
 // One distance of the sweep: all that is wrong so many cycles apart is marked, and the first period that is not marked is found.
+#![tactic(auto)]
+
 ghost use Rattle.std.specs.Prelude.{◌≡◌, ◌<◌, ◌≤◌, length};
 ghost use Rattle.theory.specs.Tests.{step};
 ghost use Rattle.columns.specs.Columns.{Short};

@@ -1,4 +1,6 @@
 // A table as the code hands it around, by value, its dates and its places.
+#![tactic(auto)]
+
 ghost use Rattle.std.specs.Prelude.{◌≡◌};
 ghost use Rattle.rules.specs.Table.{end_of, held_to};
 ghost use Rattle.rules.specs.Judge.{ops_place};
@@ -7,7 +9,7 @@ ghost use Rattle.table.specs.Tables.{no_table, op_of, JudgedAs};
 
 use fields::{Refusal, Verdict};
 
-#[derive(Drop)]
+#[derive(Clone, Copy)]
 pub struct Op {
     pub start: u32,
     pub dur: u32,
@@ -19,14 +21,14 @@ pub struct Op {
 }
 
 // The operation that decides, by its number, or none.
-#[derive(Drop)]
+#[derive(Clone, Copy)]
 pub enum Decider {
     Nobody,
     Decides(usize),
 }
 
 // The first `modes` words of `follow` and the first `count` operations count; the others are zero.
-#[derive(Drop)]
+#[derive(Clone, Copy)]
 pub struct Table {
     pub len: u32,
     pub boards: u32,
@@ -40,7 +42,7 @@ pub struct Table {
 }
 
 // A verdict with its table; on a refusal the table is the empty one.
-#[derive(Drop)]
+#[derive(Clone, Copy)]
 pub struct Judged {
     pub verdict: Verdict,
     pub table: Table,

@@ -1,67 +1,54 @@
 -- The steps of writing the text, and what a text by value holds.
 -- Assumes nothing.
-use Rattle.std.specs.Prelude.{ℕ, zero, suc, ◌+◌, ◌-◌, ◌<◌, ◌≤◌, ◌≡◌, refl, List, [], ◌∷◌, ◌++◌, get_or, take, drop, replicate}
+use Rattle.std.specs.Prelude.{ℕ, zero, suc, ◌+◌, ◌-◌, ◌<◌, ◌≤◌, ◌≡◌, refl, List, [], ◌++◌, take, drop, replicate}
 use Rattle.std.proofs.Math.Path.{sym, ap}
 use Rattle.std.proofs.Common.{◌∙◌, arith, length-take-le}
 use Rattle.std.proofs.Math.ListN.{length, length-append}
 use Rattle.std.proofs.lemmas.List.{length-replicate}
-use Rattle.rules.specs.Table.{Table, Accepted}
-use Rattle.rules.specs.Runs.{IsPeriod}
-use Rattle.rules.specs.Rows.{reply_of}
-use Rattle.rules.specs.Places.{EachPlaces}
+use Rattle.rules.specs.Table.{Table, nops}
+use Rattle.rules.specs.Rows.{Reply, reply_of}
 use Rattle.rules.specs.Verdicts.{Verdict, accepted, refused, ROOM}
-use Rattle.rules.specs.Text.{each_line, row_lines, period_line, refused_line, reply_text, cell_lines, Listing, listing_text, told, text_of, longest_text}
+use Rattle.rules.specs.Text.{row_line, row_lines, period_line, refused_line, reply_text, told, text_of, longest_text}
 use Rattle.rules.specs.Answers.{put}
 use Rattle.theory.proofs.Text.{lines_none, lines_snoc, reply_text_lem}
 use Rattle.theory.proofs.Answering.{put_room, put_short}
-use Rattle.lives.proofs.Bounds.{places_bound}
-use Rattle.lives.proofs.Listings.{listing_text_lem, listing_longest}
 use Rattle.fields.specs.declared.Refusal.{Refusal}
 use Rattle.fields.specs.Verdicts.{refusal_of, leaving}
 use Rattle.fields.specs.RefusalLaws.{refusal_is}
 use Rattle.table.specs.Tables.{padded}
 use Rattle.table.specs.TableLaws.{take_padded}
 use Rattle.puts.specs.PutLaws.{stored_front}
+use Rattle.replies.specs.Replies.{row_in}
+use Rattle.replies.specs.ReplyLaws.{rows_length, rows_next}
 use Rattle.lines.specs.Lines.{Puts}
 use Rattle.lines.specs.LineLaws.{puts_then, copy_none}
 use Rattle.text.specs.declared.Text.{Text}
-use Rattle.text.specs.Texts.{listing_at, text_in}
+use Rattle.text.specs.Texts.{text_in}
 
--- ---- a line for each of a list, one after the other, whatever the lines are
-
-module _ {A : Type 0} (line : ℕ → A → List ℕ) (xs : List A) (out : List ℕ) (at : ℕ) where
-  pub lines_start : Puts out out at at (each_line line 0 (take 0 xs))
-  lines_start = rw (lines_none line 0) (copy_none out at [], omega arith)
-
-  -- one line more, that of the next
-  pub lines_turn : (i : ℕ) (x : A) {mid end : List ℕ} {m n : ℕ} → i ≤ length xs → take (i + 1) xs ≡ take i xs ++ (x ∷ [])
-      → Puts out mid at m (each_line line 0 (take i xs)) → Puts mid end m n (line i x) → Puts out end at n (each_line line 0 (take (i + 1) xs))
-  lines_turn i x h next a b =
-      let more = ap (each_line line 0) next ∙ lines_snoc line (take i xs) 0 i x (omega (arith, length-take-le i xs h)) in
-      rw more (puts_then out at (each_line line 0 (take i xs)) (line i x) a b)
-
--- ---- the lines of the rows behind that of the period, and the lines of the cells behind them
+-- ---- the lines of the rows, one after the other
 
 module _ (T : Table) (q : ℕ) where
+  -- one row more
+  lines_more : (i : ℕ) → i < nops T → row_lines 0 (take (i + 1) (reply_of T q).rows) ≡ row_lines 0 (take i (reply_of T q).rows) ++ row_line i (row_in T q i)
+  lines_more i h =
+      let rows = take i (reply_of T q).rows in
+      let place : i ≡ 0 + length rows = omega (arith, length-take-le i (reply_of T q).rows (omega (arith, rows_length T q))) in
+      ap (row_lines 0) (rows_next T q i h) ∙ lines_snoc row_line rows 0 i (row_in T q i) place
+
+  module _ (out : List ℕ) (at : ℕ) where
+    pub row-lines-none : Puts out out at at (row_lines 0 (take 0 (reply_of T q).rows))
+    row-lines-none = rw (lines_none row_line 0) (copy_none out at [], omega arith)
+
+    pub lines_turn : (i : ℕ) {mid end : List ℕ} {m n : ℕ} → i < nops T → Puts out mid at m (row_lines 0 (take i (reply_of T q).rows))
+        → Puts mid end m n (row_line i (row_in T q i)) → Puts out end at n (row_lines 0 (take (i + 1) (reply_of T q).rows))
+    lines_turn i h a b = rw (lines_more i h) (puts_then out at (row_lines 0 (take i (reply_of T q).rows)) (row_line i (row_in T q i)) a b)
+
   pub reply_put : (out : List ℕ) {mid end : List ℕ} {m n : ℕ} → Puts out mid 0 m (period_line q) → Puts mid end m n (row_lines 0 (reply_of T q).rows)
       → Puts out end 0 n (reply_text (reply_of T q))
   reply_put out a b = rw (reply_text_lem T q) (puts_then out 0 (period_line q) (row_lines 0 (reply_of T q).rows) a b)
 
-module _ (T : Table) (q : ℕ) (rs : List ℕ) where
-  pub listing_put : (out : List ℕ) {mid end : List ℕ} {m n : ℕ} → Puts out mid 0 m (reply_text (reply_of T q)) → Puts mid end m n (cell_lines 0 rs)
-      → Puts out end 0 n (listing_text (listing_at T q rs))
-  listing_put out a b = rw (listing_text_lem (listing_at T q rs)) (puts_then out 0 (reply_text (reply_of T q)) (cell_lines 0 rs) a b)
-
-  module _ (ok : Accepted T) (period : IsPeriod T q) (each : EachPlaces T q rs) where
-    -- a number of places has 5 digits at most
-    pub places_small : (c : ℕ) → c < length rs → get_or rs c 0 < 100000
-    places_small c h = omega (arith, places_bound T ok c q (get_or rs c 0) period.low (each.each c (omega (arith, each.size))))
-
-    pub listing_fits : length (listing_text (listing_at T q rs)) ≤ longest_text
-    listing_fits = listing_longest T (listing_at T q rs) ok (q, period, refl, each)
-
 -- the text of a refusal is its line
-pub refusal_text : (v : Verdict Listing) {n a b : ℕ} → v ≡ refused n a b → text_of v ≡ refused_line n a b
+pub refusal_text : (v : Verdict Reply) {n a b : ℕ} → v ≡ refused n a b → text_of v ≡ refused_line n a b
 unfolding text_of
 refusal_text v e = ap text_of e
 
@@ -73,7 +60,7 @@ module _ {A : Type 0} (f : A → List ℕ) {v : Verdict A} where
 
   pub told_refusal : (r : Refusal) → v ≡ refusal_of r → text_of (refusal_of r) ≡ told f v
   unfolding told text_of
-  told_refusal r e = let (n, a, b, x, y) = refusal_is {A = Listing} {B = A} r in ap text_of x ∙ sym (ap (told f) (e ∙ y))
+  told_refusal r e = let (n, a, b, x, y) = refusal_is {A = Reply} {B = A} r in ap text_of x ∙ sym (ap (told f) (e ∙ y))
 
 -- ---- a text by value
 

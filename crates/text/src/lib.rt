@@ -1,21 +1,19 @@
-// The text that `fold` prints, by value: the lines of a reply and of the places of the cells, or of a refusal.
-ghost use Rattle.std.specs.Prelude.{◌≡◌, ℕ, ◌+◌, ◌*◌, ◌<◌, ◌≤◌, length, get_or, take};
-ghost use Rattle.rules.specs.Runs.{IsPeriod};
+// The text that `fold` prints, by value: the lines of a reply or of a refusal.
+ghost use Rattle.std.specs.Prelude.{◌≡◌, ◌+◌, ◌*◌, ◌≤◌, length};
 ghost use Rattle.rules.specs.Rows.{reply_of};
-ghost use Rattle.rules.specs.Places.{EachPlaces};
-ghost use Rattle.rules.specs.Text.{row_lines, cell_lines, listing_text, text_of};
+ghost use Rattle.rules.specs.Text.{row_lines, reply_text, text_of};
 ghost use Rattle.rules.specs.Answers.{put};
 ghost use Rattle.fields.specs.Verdicts.{refusal_of, answered, leaving};
 ghost use Rattle.table.specs.Tables.{table_of, Good};
 ghost use Rattle.lines.specs.Lines.{Puts};
-ghost use Rattle.text.specs.Texts.{listing_at, text_in};
+ghost use Rattle.text.specs.Texts.{text_in};
 
 use fields::{Answer, Refusal};
 use rows::Ticks;
 use table::Table;
 
 // No text has more bytes (`Text.longest_text` in `rules`).
-pub const LONGEST: usize = 1452;
+pub const LONGEST: usize = 780;
 
 // A text: its first `len` bytes count, and the others are zero.
 #[derive(Drop)]
@@ -39,29 +37,14 @@ fn put_row_lines(out: &mut [u8], at: usize, t: Table, q: Ticks) -> usize
     end
 }
 
-// The lines of the places of n cells, each of 21 bytes at most.
-fn put_cell_lines(out: &mut [u8], at: usize, rs: &[u32; 32], n: usize) -> usize
-    requires { (n ≤ 32) × (length rs.now ≡ 32) × ((c : ℕ) → c < n → get_or rs.now c 0 < 100000) × (at + 21 * n ≤ length out.old) }
-    ensures { Puts out.old out.new at result (cell_lines 0 (take n rs.now)) }
-{
-    let mut end = at;
-    let mut c: usize = 0;
-    while c < n {
-        end = lines::put_cell_line(out, end, c, rs[c]);
-        c += 1;
-    }
-    end
-}
-
-// The text of a table folded at its period q, with the places of its cells for q.
-pub fn listing_text(t: Table, q: Ticks, rs: &[u32; 32]) -> Text
-    requires { Good t × IsPeriod (table_of t) q.0 × (length rs.now ≡ 32) × EachPlaces (table_of t) q.0 (take t.cells rs.now) }
-    ensures { result ≡ text_in (listing_text (listing_at (table_of t) q.0 (take t.cells rs.now))) }
+// The text of a table folded at the period q.
+pub fn reply_text(t: Table, q: Ticks) -> Text
+    requires { Good t × (1 ≤ q.0) × (q.0 ≤ t.len) }
+    ensures { result ≡ text_in (reply_text (reply_of (table_of t) q.0)) }
 {
     let mut bytes = [0u8; LONGEST];
     let end = lines::put_period_line(&mut bytes, 0, q);
-    let rows = put_row_lines(&mut bytes, end, t, q);
-    let len = put_cell_lines(&mut bytes, rows, rs, t.cells as usize);
+    let len = put_row_lines(&mut bytes, end, t, q);
     Text { bytes, len }
 }
 

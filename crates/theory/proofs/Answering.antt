@@ -17,7 +17,8 @@ use Rattle.rules.specs.Rows.{Reply, reply_of}
 use Rattle.rules.specs.Verdicts.{Verdict, accepted, refused, ROOM, onwards}
 use Rattle.rules.specs.Bytes.{reply_bytes, farthest}
 use Rattle.rules.specs.Judge.{judge, Numbers}
-use Rattle.rules.specs.Answers.{Written, put, written, Answers, Planned, ReplyTo, bytes_of, IsPlan, IsUnfold, IsWrite, IsMargin, IsPeriodOf, IsGapOf, asked_table, YesFor, YesNo, Fit, BoardsFit, Arrive, ValuesArrive}
+use Rattle.rules.specs.Text.{reply_text, text_of}
+use Rattle.rules.specs.Answers.{Written, put, written, Answers, Planned, ReplyTo, bytes_of, IsPlan, IsText, IsFold, IsUnfold, IsWrite, IsMargin, IsPeriodOf, IsGapOf, asked_table, YesFor, YesNo, Fit, BoardsFit, Arrive, ValuesArrive}
 use Rattle.theory.specs.Tests.{period_of, plan_of, boards_answer, values_answer, gap_of, gap_answer}
 use Rattle.theory.proofs.Says.{Says}
 use Rattle.theory.proofs.Verdicts.{never_refused, onwards_accepts}
@@ -39,7 +40,7 @@ answers_unique P one (accepted x) v w p q = p.2 ∙ ap accepted (one x p.0 q.0 p
 answers_unique P one (refused n a b) v w p q = p ∙ sym q
 
 -- an answer for each thing accepted: a verdict
-pub answers_exist : {A B : Type 0} (P : A → B → Type 0) (f : A → B) (u : Verdict A) → ((x : A) → u ≡ accepted x → P x (f x))
+answers_exist : {A B : Type 0} (P : A → B → Type 0) (f : A → B) (u : Verdict A) → ((x : A) → u ≡ accepted x → P x (f x))
     → Answers P u (onwards u (λ x. accepted (f x)))
 unfolding Answers onwards
 answers_exist P f (accepted x) g = (f x, g x refl, refl)
@@ -59,7 +60,7 @@ pub put_short : (bytes out : List ℕ) → length out < length bytes
 unfolding put
 put_short bytes out h = rw (lt-ltb (length out) (length bytes) h)
 
-pub put_refused : (bytes out : List ℕ) (n a b : ℕ) → (put bytes out).answer ≡ refused n a b → (put bytes out).buffer ≡ out
+put_refused : (bytes out : List ℕ) (n a b : ℕ) → (put bytes out).answer ≡ refused n a b → (put bytes out).buffer ≡ out
 put_refused bytes out n a b e = go (dec_lt (length out) (length bytes))
   where
     go : Dec (length out < length bytes) → (put bytes out).buffer ≡ out
@@ -73,7 +74,7 @@ refusal_keeps (accepted bytes) out n a b e = put_refused bytes out n a b e
 refusal_keeps (refused m c d) out n a b e = refl
 
 -- whatever was to be written, no byte is added to the buffer and none taken away
-pub put_length : (bytes out : List ℕ) → length (put bytes out).buffer ≡ length out
+put_length : (bytes out : List ℕ) → length (put bytes out).buffer ≡ length out
 put_length bytes out = go (dec_lt (length out) (length bytes))
   where
     go : Dec (length out < length bytes) → length (put bytes out).buffer ≡ length out
@@ -82,7 +83,7 @@ put_length bytes out = go (dec_lt (length out) (length bytes))
         ap (λ (w : Written). length w.buffer) (put_room bytes out (omega arith))
         ∙ omega (arith, length-append bytes (drop (length bytes) out), length-drop (length bytes) out)
 
-pub written_length : (v : Verdict (List ℕ)) (out : List ℕ) → length (written v out).buffer ≡ length out
+written_length : (v : Verdict (List ℕ)) (out : List ℕ) → length (written v out).buffer ≡ length out
 unfolding written
 written_length (accepted bytes) out = put_length bytes out
 written_length (refused n a b) out = refl
@@ -131,6 +132,31 @@ plan_room s out T w read short plan =
     let size = reply_size T (period_of T) in
     let wrote = plan_put s out w T read plan ∙ put_short (reply_bytes (reply_of T (period_of T))) out (omega arith) in
     (rw (wrote, size), rw wrote)
+
+-- ---- fold: the text of the one reply
+pub text_unique : (s b c : List ℕ) → IsText s b → IsText s c → b ≡ c
+text_unique s b c (v, r, e) (u, q, f) = e ∙ ap text_of (reply_unique s v u r q) ∙ sym f
+
+pub text_exists : (s : List ℕ) → (b : List ℕ) × IsText s b
+text_exists s = (text_of (plan_of s), (plan_of s, reply_found s, refl))
+
+pub fold_unique : (s out : List ℕ) (w x : Written) → IsFold s out w → IsFold s out x → w ≡ x
+fold_unique s out w x (b, r, e) (c, q, f) = e ∙ ap (λ (y : List ℕ). put y out) (text_unique s b c r q) ∙ sym f
+
+pub fold_exists : (s out : List ℕ) → (w : Written) × IsFold s out w
+fold_exists s out = let (b, text) = text_exists s in (put b out, (b, text, refl))
+
+-- an accepted table's text is that of its reply, put where there is room
+pub fold-replies : (s out : List ℕ) (T : Table) (q : ℕ) (w : Written) → judge s ≡ accepted T → IsPeriod T q
+    → length (reply_text (reply_of T q)) ≤ length out → IsFold s out w
+    → (w.answer ≡ accepted (length (reply_text (reply_of T q))))
+    × (w.buffer ≡ reply_text (reply_of T q) ++ drop (length (reply_text (reply_of T q))) out)
+unfolding text_of Answers
+fold-replies s out T q w read period room (b, (v, r, t), e) =
+    let text = reply_text (reply_of T q) in
+    let same = reply_unique s v (accepted (reply_of T q)) r (subst⁻¹ (λ (u : Verdict Table). Answers Planned u (accepted (reply_of T q))) read (reply_of T q, (q, period, refl), refl)) in
+    let wrote = e ∙ ap (λ (y : List ℕ). put y out) (t ∙ ap text_of same) ∙ put_room text out room in
+    (rw wrote, rw wrote)
 
 -- ---- the period of a table's bytes
 pub period_of_unique : (s : List ℕ) (v w : Verdict ℕ) → IsPeriodOf s v → IsPeriodOf s w → v ≡ w
@@ -235,8 +261,14 @@ unfold_keeps s out w n a b e no-starts = rw e (refusal_keeps _ out n a b (rw e a
 pub write_keeps : (N : Numbers) (out : List ℕ) (w : Written) (n a b : ℕ) → IsWrite N out w → w.answer ≡ refused n a b → w.buffer ≡ out
 write_keeps N out w n a b e no_table = rw e (refusal_keeps _ out n a b (rw e at no_table))
 
+pub fold_keeps : (s out : List ℕ) (w : Written) (n a b : ℕ) → IsFold s out w → w.answer ≡ refused n a b → w.buffer ≡ out
+fold_keeps s out w n a b (text, r, e) no_text = rw e (put_refused text out n a b (rw e at no_text))
+
 pub plan_length : (s out : List ℕ) (w : Written) → IsPlan s out w → length w.buffer ≡ length out
 plan_length s out w (v, r, e) = rw e (written_length _ out)
+
+pub fold_length : (s out : List ℕ) (w : Written) → IsFold s out w → length w.buffer ≡ length out
+fold_length s out w (b, r, e) = rw e (put_length b out)
 
 pub unfold_length : (s out : List ℕ) (w : Written) → IsUnfold s out w → length w.buffer ≡ length out
 unfold_length s out w e = rw e (written_length _ out)
@@ -248,6 +280,12 @@ write_length N out w e = rw e (written_length _ out)
 module _ (s t : List ℕ) (near : take farthest s ≡ take farthest t) where
   pub plan_near : (out : List ℕ) (w : Written) → IsPlan s out w → IsPlan t out w
   plan_near out w (v, r, e) = (v, rw (no_farther s t near) at r, e)
+
+  pub text_near : (b : List ℕ) → IsText s b → IsText t b
+  text_near b (v, r, e) = (v, rw (no_farther s t near) at r, e)
+
+  pub fold_near : (out : List ℕ) (w : Written) → IsFold s out w → IsFold t out w
+  fold_near out w (b, r, e) = (b, text_near b r, e)
 
   pub period_of_near : (v : Verdict ℕ) → IsPeriodOf s v → IsPeriodOf t v
   period_of_near v x = rw (no_farther s t near) at x

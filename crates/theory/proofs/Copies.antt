@@ -32,9 +32,9 @@ module _ (s : List ℕ) (small : (i : ℕ) → i < length s → get_or s i 0 < 2
     is : xs ++ drop b s ≡ drop a s
 
   -- what stands behind it
-  infixr 40 ◌and-then◌
-  ◌and-then◌ : {xs ys : List ℕ} {a b c : ℕ} → Spelt xs a b → Spelt ys b c → Spelt (xs ++ ys) a c
-  ◌and-then◌ {xs} {ys} {c = c} p q = record { is = append_assoc xs ys (drop c s) ∙ ap (λ (l : List ℕ). xs ++ l) q.is ∙ p.is }
+  infixr 40 ◌and_then◌
+  ◌and_then◌ : {xs ys : List ℕ} {a b c : ℕ} → Spelt xs a b → Spelt ys b c → Spelt (xs ++ ys) a c
+  ◌and_then◌ {xs} {ys} {c = c} p q = record { is = append_assoc xs ys (drop c s) ∙ ap (λ (l : List ℕ). xs ++ l) q.is ∙ p.is }
 
   -- nothing, up to the same place
   nil : (a b : ℕ) → b ≡ a → Spelt [] a b

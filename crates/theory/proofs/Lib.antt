@@ -32,6 +32,7 @@ pub mod Asking
 pub mod Beyond
 pub mod Answering
 pub mod Both
+pub mod Saying
 pub mod Copies
 pub mod RoundTrip
 pub mod Keeps

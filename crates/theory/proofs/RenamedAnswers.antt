@@ -20,7 +20,8 @@ use Rattle.rules.specs.Renamed.{Names, Renamed, boards_by, modes_by, Moved}
 use Rattle.rules.specs.Verdicts.{Verdict, accepted, Test, ◌then◌}
 use Rattle.rules.specs.Bytes.{table_bytes, reply_bytes}
 use Rattle.rules.specs.Judge.{judge}
-use Rattle.rules.specs.Answers.{Written, put, Answers, Planned, ReplyTo, IsPlan, asked, period_asked, margin_test, IsMargin, IsPeriodOf, IsGapOf, asked_table, YesFor, YesNo, Fit, BoardsFit, Arrive, ValuesArrive}
+use Rattle.rules.specs.Text.{reply_text, text_of}
+use Rattle.rules.specs.Answers.{Written, put, Answers, Planned, ReplyTo, IsPlan, IsText, asked, period_asked, margin_test, IsMargin, IsPeriodOf, IsGapOf, asked_table, YesFor, YesNo, Fit, BoardsFit, Arrive, ValuesArrive}
 use Rattle.theory.specs.Tests.{period_of}
 use Rattle.theory.proofs.Verdicts.{never_refused, then_accepts, then_refuses, onwards_accepts}
 use Rattle.theory.proofs.Says.{Known, known, holds, fails}
@@ -48,19 +49,19 @@ module _ (by : Names) (s : List ℕ) (S T : Table) (read : judge s ≡ accepted 
   pub read_renamed : judge t ≡ accepted T
   read_renamed = write_read T (renamed_accepted by S T (judge_accepted s S read) re)
 
-  -- what the table keeps is the same answer
-  pub answer_renamed : {B : Type 0} (P : Table → B → Type 0) → ((y : B) → P S y → P T y) → (v : Verdict B) → Answers P (judge s) v → Answers P (judge t) v
-  answer_renamed {B} P keeps v x =
-      let (y, is, e) = answered_back P (judge s) v x read in
-      subst (λ (u : Verdict B). Answers P (judge t) u) (sym e) (accepted_answers P read_renamed (keeps y is))
+  -- a number that the table keeps is the same answer
+  number-renamed : (P : Table → ℕ → Type 0) → ((n : ℕ) → P S n ↔ P T n) → (v : Verdict ℕ) → Answers P (judge s) v → Answers P (judge t) v
+  number-renamed P keeps v x =
+      let (n, is, e) = answered_back P (judge s) v x read in
+      subst (λ (u : Verdict ℕ). Answers P (judge t) u) (sym e) (accepted_answers P read_renamed ((keeps n).0 is))
 
   -- the same period
   pub period_renamed : (v : Verdict ℕ) → IsPeriodOf s v → IsPeriodOf t v
-  period_renamed = answer_renamed IsPeriod (λ q. (renamed_period by S T (judge_accepted s S read) re q).0)
+  period_renamed = number-renamed IsPeriod (renamed_period by S T (judge_accepted s S read) re)
 
   -- the same gap
   pub gap_renamed : (v : Verdict ℕ) → IsGapOf s v → IsGapOf t v
-  gap_renamed = answer_renamed IsGap (λ g. (renamed_gap by S T (judge_accepted s S read) re g).0)
+  gap_renamed = number-renamed IsGap (renamed_gap by S T (judge_accepted s S read) re)
 
   -- a reply, with the rows moved
   pub reply_renamed : (R : Reply) → ReplyTo s (accepted R) → (U : Reply) × ReplyTo t (accepted U) × Moved by.place R U
@@ -74,6 +75,14 @@ module _ (by : Names) (s : List ℕ) (S T : Table) (read : judge s ≡ accepted 
         accepted_answers Planned read_renamed (q, (renamed_period by S T (judge_accepted s S read) re q).0 period, refl),
         subst (λ (x : Reply). Moved by.place x (reply_of T q)) (sym whole) (renamed_rows by S T (judge_accepted s S read) re q),
       )
+
+  -- fold: the text of that reply
+  pub text_renamed : (b : List ℕ) → IsText s b → (R : Reply) × (U : Reply) × Moved by.place R U × (b ≡ reply_text R) × IsText t (reply_text U)
+  unfolding text_of
+  text_renamed b (v, x, e) =
+      let (R, planned, told) = answered_back Planned (judge s) v x read in
+      let (U, y, moved) = reply_renamed R (subst (λ (u : Verdict Reply). ReplyTo s u) told x) in
+      (R, U, moved, e ∙ ap text_of told, (accepted U, y, refl))
 
   -- plan: where it answers the first bytes, it answers the second, given room: as many bytes, the same period and the moved rows, and the rest of
   -- each buffer as it was

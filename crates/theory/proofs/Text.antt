@@ -9,10 +9,16 @@ use native.Mathlib.Omega.{arith}
 use lib.ListN.{length, get_or, length-append, length-map, get_or-map}
 use borrow.Author.Tests.{lt-ltb, le-ltb}
 use Rattle.rules.specs.Table.{Table, nops, op, no_op, Accepted}
-use Rattle.rules.specs.Rows.{Row, reply_of}
-use Rattle.rules.specs.Text.{digits, decimal, period_word, op_word, start_word, fst_word, refused_word, space, newline, row_line, each_line, row_lines, period_line, refused_line, reply_text, cell_word, places_word, cell_line, cell_lines}
+use Rattle.rules.specs.Rows.{Row, Reply, reply_of}
+use Rattle.rules.specs.Verdicts.{Verdict, accepted, refused}
+use Rattle.rules.specs.Judge.{judge}
+use Rattle.rules.specs.Text.{digits, decimal, period_word, op_word, start_word, fst_word, refused_word, space, newline, row_line, each_line, row_lines, period_line, refused_line, reply_text, text_of, longest_text}
 use Rattle.rules.specs.Words.{value_from, value_of}
-use Rattle.rules.specs.Bench.{All}
+use Rattle.rules.specs.Answers.{Answers, Planned, ReplyTo}
+use Rattle.rules.specs.Bench.{All, k1_bytes}
+use Rattle.theory.specs.Tests.{plan_of}
+use Rattle.theory.proofs.Judging.{judge_accepted}
+use Rattle.theory.proofs.Bounded.{Small, figures_small}
 use Rattle.theory.proofs.Replies.{folded}
 
 -- ---- the digits, one by one
@@ -184,16 +190,6 @@ refused_line_lem n a b = refused_open n a b ∙ by_pairs refused_word (decimal n
 refused_length : (n a b : ℕ) → length (refused_line n a b) ≡ 11 + length (decimal n) + length (decimal a) + length (decimal b)
 refused_length n a b = omega (arith, simp length-append at (ap length (refused_open n a b)))
 
-cell_open : (c r : ℕ) → cell_line c r ≡ cell_word ++ decimal c ++ places_word ++ decimal r ++ newline
-unfolding cell_line
-cell_open c r = refl
-
-pub cell_line_lem : (c r : ℕ) → cell_line c r ≡ cell_word ++ decimal c ++ (places_word ++ decimal r) ++ newline
-cell_line_lem c r = cell_open c r ∙ simp append_assoc
-
-cell_length : (c r : ℕ) → length (cell_line c r) ≡ 14 + length (decimal c) + length (decimal r)
-cell_length c r = omega (arith, simp length-append at (ap length (cell_open c r)))
-
 -- numbers of at most 20 digits, as those of 64 bits
 pub refused_short : (n a b : ℕ) → n < 2 ^ 64 → a < 2 ^ 64 → b < 2 ^ 64 → length (refused_line n a b) ≤ 71
 refused_short n a b h g f =
@@ -208,10 +204,6 @@ period_short q h = omega (arith, period_length q, decimal_length 3 q (omega arit
 -- operations below 100, and dates and start indices below 1000: at most 24 bytes
 pub row_short : (i : ℕ) (r : Row) → i < 100 → r.start.number < 1000 → r.fst.number < 1000 → length (row_line i r) ≤ 24
 row_short i r h g f = omega (arith, row_length i r, decimal_length 1 i h, decimal_length 2 r.start.number g, decimal_length 2 r.fst.number f)
-
--- cells below 100, and numbers of places of at most 5 digits: at most 21 bytes
-pub cell_short : (c r : ℕ) → c < 100 → r < 100000 → length (cell_line c r) ≤ 21
-cell_short c r h g = omega (arith, cell_length c r, decimal_length 1 c h, decimal_length 4 r g)
 
 -- a line for each of a list, whatever the lines are
 module _ {A : Type 0} (line : ℕ → A → List ℕ) where
@@ -233,7 +225,7 @@ module _ {A : Type 0} (line : ℕ → A → List ℕ) where
       ∙ sym (append_assoc (line i y) (each_line line (suc i) xs) (line n x))
       ∙ ap (λ (l : List ℕ). l ++ line n x) (sym (lines_first i y xs))
 
--- ---- how long the text of a reply is
+-- ---- no text is longer than longest_text
 
 -- lines of rows whose dates and start indices are below 1000
 rows_short : (d : Row) (rs : List Row) (i : ℕ) → i + length rs ≤ 100
@@ -248,19 +240,6 @@ rows_short d (r ∷ rs) i h each =
       length-append (row_line i r) (row_lines (suc i) rs),
       row_short i r (omega arith) start fst,
       rows_short d rs (suc i) (omega arith) (λ k g. each (suc k) (omega arith)),
-    )
-
--- lines of cells with numbers of at most 5 digits
-pub cells_short : (rs : List ℕ) (c : ℕ) → c + length rs ≤ 100 → ((k : ℕ) → k < length rs → get_or rs k 0 < 100000)
-    → length (cell_lines c rs) ≤ 21 * length rs
-cells_short [] c h each = omega (arith, ap length (lines_none cell_line c))
-cells_short (r ∷ rs) c h each =
-    omega (
-      arith,
-      ap length (lines_first cell_line c r rs),
-      length-append (cell_line c r) (cell_lines (suc c) rs),
-      cell_short c r (omega arith) (each 0 (omega arith)),
-      cells_short rs (suc c) (omega arith) (λ k g. each (suc k) (omega arith)),
     )
 
 -- a reply's text opened, its lines closed
@@ -284,7 +263,7 @@ module _ (T : Table) (q : ℕ) (ok : Accepted T) where
       (rows_short (folded q no_op) (map (folded q) T.ops) 0 (omega (arith, ok.ops_high))
       (λ k g. rw (get_or-map (folded q) T.ops k no_op) (row_small k (omega arith))))
 
-  pub reply_longest : q ≤ T.len → length (reply_text (reply_of T q)) ≤ 780
+  pub reply_longest : q ≤ T.len → length (reply_text (reply_of T q)) ≤ longest_text
   reply_longest h =
       omega (
         arith,
@@ -294,3 +273,24 @@ module _ (T : Table) (q : ℕ) (ok : Accepted T) where
         lines_short,
         ok.ops_high,
       )
+
+-- whatever was judged, with small figures where it was refused
+answer_longest : (u : Verdict Table) (v : Verdict Reply) → ((T : Table) → u ≡ accepted T → Accepted T)
+    → ((n a b : ℕ) → u ≡ refused n a b → Small n a b) → Answers Planned u v → length (text_of v) ≤ longest_text
+unfolding Answers text_of
+answer_longest (accepted T) v good small (R, (q, period, e), f) =
+    rw (f ∙ ap accepted e) (reply_longest T q (good T refl) period.high)
+answer_longest (refused n a b) v good small e =
+    let fig = small n a b refl in
+    rw e (omega (arith, refused_short n a b (omega (arith, fig.high)) (omega (arith, fig.first)) (omega (arith, fig.second))))
+
+-- the text for a table's bytes
+pub text_longest : (s : List ℕ) (v : Verdict Reply) → ReplyTo s v → length (text_of v) ≤ longest_text
+text_longest s v = answer_longest (judge s) v (judge_accepted s) (figures_small s)
+
+-- ---- "it prints the two lines `period 3` and `op 0 start 1 fst 0`"
+pub k1_text : text_of (plan_of k1_bytes)
+    ≡ 112 ∷ 101 ∷ 114 ∷ 105 ∷ 111 ∷ 100 ∷ 32 ∷ 51 ∷ 10
+    ∷ 111 ∷ 112 ∷ 32 ∷ 48 ∷ 32 ∷ 115 ∷ 116 ∷ 97 ∷ 114 ∷ 116 ∷ 32 ∷ 49 ∷ 32 ∷ 102 ∷ 115 ∷ 116 ∷ 32 ∷ 48 ∷ 10 ∷ []
+unfolding text_of plan_of k1_bytes
+k1_text = refl

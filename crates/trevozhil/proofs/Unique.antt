@@ -13,11 +13,10 @@ use Rattle.rules.specs.Judge.{judge, Numbers}
 use Rattle.rules.specs.Answers.{Fit, Arrive}
 use Rattle.theory.proofs.Period.{period_unique}
 use Rattle.theory.proofs.Gaps.{gap_unique}
-use Rattle.theory.proofs.Answering.{answers_unique, plan_unique, unfold_unique, write_unique, margin_unique, yes_no_unique}
-use Rattle.lives.proofs.Listings.{stored_unique, fold_unique}
+use Rattle.theory.proofs.Answering.{answers_unique, plan_unique, fold_unique, unfold_unique, write_unique, margin_unique, yes_no_unique}
 use Rattle.figures.specs.declared.Figures.{Figures}
 use Rattle.telling.specs.Telling.{Ended, ended_of, told_of, yes_of, ended_with}
-use Rattle.calls.specs.Calls.{JudgeTells, NumbersTell, WriteEnds, PlanEnds, PlacesEnds, FoldEnds, UnfoldEnds, PeriodTells, GapTells, YesNoTells, BoardsTell, ValuesTell, MarginEnds}
+use Rattle.calls.specs.Calls.{JudgeTells, NumbersTell, WriteEnds, PlanEnds, FoldEnds, UnfoldEnds, PeriodTells, GapTells, YesNoTells, BoardsTell, ValuesTell, MarginEnds}
 
 pub judge_one : (s : List ℕ) (f g : Figures) → JudgeTells s f → JudgeTells s g → f ≡ g
 judge_one s f g x y = x ∙ sym y
@@ -46,9 +45,6 @@ values_one = yes_no_one Arrive
 
 pub plan_one : (s out : List ℕ) (l m : Ended (List ℕ)) → PlanEnds s out l → PlanEnds s out m → l ≡ m
 plan_one s out l m (w, p, e) (x, q, f) = e ∙ ap ended_of (plan_unique s out w x p q) ∙ sym f
-
-pub places_one : (s out : List ℕ) (l m : Ended (List ℕ)) → PlacesEnds s out l → PlacesEnds s out m → l ≡ m
-places_one s out l m (w, p, e) (x, q, f) = e ∙ ap ended_of (stored_unique s out w x p q) ∙ sym f
 
 pub fold_one : (s out : List ℕ) (l m : Ended (List ℕ)) → FoldEnds s out l → FoldEnds s out m → l ≡ m
 fold_one s out l m (w, p, e) (x, q, f) = e ∙ ap ended_of (fold_unique s out w x p q) ∙ sym f

@@ -13,16 +13,16 @@ use Rattle.rules.specs.Runs.{IsPeriod}
 use Rattle.rules.specs.Gaps.{IsGap}
 use Rattle.rules.specs.Rows.{Reply, starts_of, margin}
 use Rattle.rules.specs.Verdicts.{Verdict, accepted, refused, ◌then◌, onwards}
-use Rattle.rules.specs.Bytes.{table_bytes, reply_bytes, starts_bytes, places_bytes}
+use Rattle.rules.specs.Bytes.{table_bytes, reply_bytes, starts_bytes}
 use Rattle.rules.specs.Judge.{judge, judge_reply, Numbers, judge_numbers}
-use Rattle.rules.specs.Answers.{Written, put, written, bytes_of, Planned, Answers, ReplyTo, PlacesFor, PlacesTo, IsText, asked_table, YesFor, Fit, Arrive, margin_test}
+use Rattle.rules.specs.Answers.{Written, put, written, bytes_of, Planned, Answers, ReplyTo, IsText, asked_table, YesFor, Fit, Arrive, margin_test}
 use Rattle.theory.proofs.Verdicts.{never_refused, then_accepts, then_first, onwards_accepts, onwards_first}
 use Rattle.theory.proofs.Answering.{put_room, put_short}
 use Rattle.theory.proofs.Asking.{question, questioned, answered_first, answered_back}
 use Rattle.figures.specs.declared.Figures.{Figures}
 use Rattle.figures.specs.Figures.{figures_of}
 use Rattle.telling.specs.Telling.{told_of, unwritten, yes_of, Ended, ended, ended_of, ended_with}
-use Rattle.calls.specs.Calls.{JudgeTells, NumbersTell, WriteEnds, PlanEnds, PlacesEnds, FoldEnds, UnfoldEnds, PeriodTells, GapTells, YesNoTells, BoardsTell, ValuesTell, MarginEnds}
+use Rattle.calls.specs.Calls.{JudgeTells, NumbersTell, WriteEnds, PlanEnds, FoldEnds, UnfoldEnds, PeriodTells, GapTells, YesNoTells, BoardsTell, ValuesTell, MarginEnds}
 use Rattle.trevozhil.proofs.Numbered.{Numbered, good, bad, then_numbered, onwards_numbered, judge_numbered, numbers_numbered, reply_numbered, asked_table_numbered, margin_numbered, put_numbered, answers_numbered}
 
 -- 0 is told exactly where P holds, and no number above 10
@@ -126,10 +126,6 @@ unfold_zero s out l (w, p, e) = written_zero (λ R. starts_bytes (starts_of R)) 
 -- trevozhil_plan: where the table is accepted and its reply, at its period, has room
 pub plan_zero : (s out : List ℕ) (l : Ended (List ℕ)) → PlanEnds s out l → (v : Verdict Reply) × ReplyTo s v × ZeroWritten reply_bytes v out l
 plan_zero s out l (w, (v, r, p), e) = (v, r, written_zero reply_bytes v out l (answers_numbered Planned (judge_numbered s) r) (e ∙ ap ended_of p))
-
--- trevozhil_places: where the table is accepted and the places of its cells, at its period, have room
-pub places_zero : (s out : List ℕ) (l : Ended (List ℕ)) → PlacesEnds s out l → (v : Verdict (List ℕ)) × PlacesTo s v × ZeroWritten places_bytes v out l
-places_zero s out l (w, (v, r, p), e) = (v, r, written_zero places_bytes v out l (answers_numbered PlacesFor (judge_numbered s) r) (e ∙ ap ended_of p))
 
 -- trevozhil_fold: where the text, that of a refused table too, has room
 pub fold_zero : (s out : List ℕ) (l : Ended (List ℕ)) → FoldEnds s out l

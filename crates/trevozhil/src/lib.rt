@@ -2,7 +2,7 @@
 ghost use Rattle.figures.specs.Figures.{figures_of};
 ghost use Rattle.handed.specs.Handed.{numbers};
 ghost use Rattle.telling.specs.Telling.{ended};
-ghost use Rattle.calls.specs.Calls.{JudgeTells, NumbersTell, WriteEnds, PlanEnds, PlacesEnds, FoldEnds, UnfoldEnds, PeriodTells, GapTells, BoardsTell, ValuesTell, MarginEnds};
+ghost use Rattle.calls.specs.Calls.{JudgeTells, NumbersTell, WriteEnds, PlanEnds, FoldEnds, UnfoldEnds, PeriodTells, GapTells, BoardsTell, ValuesTell, MarginEnds};
 
 // A table's bytes, judged.
 #[unsafe(no_mangle)]
@@ -97,14 +97,6 @@ pub extern "C" fn trevozhil_plan(s: &[u8], out: &mut [u8], a: &mut u64, b: &mut 
     ensures { PlanEnds s.now out.old (ended (figures_of result a.new b.new) out.new) }
 {
     calls::plan(s, out, a, b)
-}
-
-// The places of a table's cells.
-#[unsafe(no_mangle)]
-pub extern "C" fn trevozhil_places(s: &[u8], out: &mut [u8], a: &mut u64, b: &mut u64) -> u32
-    ensures { PlacesEnds s.now out.old (ended (figures_of result a.new b.new) out.new) }
-{
-    calls::places(s, out, a, b)
 }
 
 // The text that the program `fold` prints for a table.

@@ -1,4 +1,6 @@
 // Turns: the modes that a run can reach, and the modes that may stand n cycles after a mode, for sixteen distances at a time.
+#![tactic(auto)]
+
 ghost use Rattle.std.specs.Prelude.{◌≡◌, true, ◌↔◌, length};
 ghost use Rattle.rules.specs.Table.{Table, Accepted};
 ghost use Rattle.theory.specs.Walks.{IsReach};

@@ -1,4 +1,6 @@
 // All the pairs of a table's operations: the first clash, the first race; and the judgement of the whole table, by them and by its decider.
+#![tactic(auto)]
+
 ghost use Rattle.std.specs.Prelude.{◌≡◌, ◌≤◌};
 ghost use Rattle.rules.specs.Verdicts.{CLASH, RACE};
 ghost use Rattle.rules.specs.Judge.{clashes, races, pairs_test, judge_whole};

@@ -1,4 +1,6 @@
 // How many bytes an operation's field has, by its form: with a hold or without one; and where the operations end in a table's bytes.
+#![tactic(auto)]
+
 ghost use Rattle.std.specs.Prelude.{◌≡◌, map, ◌+◌, ◌≤◌, length, take};
 ghost use Rattle.rules.specs.Bytes.{op_size};
 ghost use Rattle.rules.specs.Judge.{ops_place, ops_size};

@@ -1,4 +1,6 @@
 // The words behind the program's name: what they ask for.
+#![tactic(auto)]
+
 ghost use Rattle.std.specs.Prelude.{◌≡◌, true, [], ◌∷◌, ◌+◌, ◌-◌, ◌*◌};
 ghost use Rattle.rules.specs.Words.{is_digit, digits_only, is_number, value_of, same_bytes, asks, is_asked};
 ghost use Rattle.words.specs.Words.{capped, capped_word, read_as, unnamed_of, word_is, asked_by, Asks};
@@ -7,7 +9,7 @@ ghost use Rattle.words.specs.Words.{capped, capped_word, read_as, unnamed_of, wo
 const LARGEST: u64 = 18446744073709551615;
 
 // What is asked for.
-#[derive(Drop)]
+#[derive(Clone, Copy)]
 pub enum Question {
     Fold,
     Boards(u64),
@@ -19,7 +21,7 @@ pub enum Question {
 }
 
 // One word: the name of a question, a number, or neither.
-#[derive(Drop)]
+#[derive(Clone, Copy)]
 pub enum Word {
     Boards,
     Values,

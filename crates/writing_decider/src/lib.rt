@@ -1,4 +1,6 @@
 // The decider's field, written into a lent buffer where there is a decider.
+#![tactic(auto)]
+
 ghost use Rattle.std.specs.Prelude.{◌≡◌, [], ◌∷◌, ◌+◌, ◌<◌, ◌≤◌, length};
 ghost use Rattle.rules.specs.Bytes.{field_bytes, decider_bytes};
 ghost use Rattle.table.specs.Tables.{who_of};

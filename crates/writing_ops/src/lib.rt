@@ -1,4 +1,6 @@
 // The operations' fields, written into a lent buffer, each in its own form: with its hold, or without one.
+#![tactic(auto)]
+
 ghost use Rattle.std.specs.Prelude.{◌≡◌, ◌+◌, ◌≤◌, true, false, length, take};
 ghost use Rattle.rules.specs.Bytes.{joined, op_form};
 ghost use Rattle.rules.specs.Judge.{ops_place, ops_end};

@@ -6,7 +6,7 @@ use native.Mathlib.Omega.{arith}
 use lib.ListN.{length}
 use Rattle.rows.specs.Rows.{ticks_of}
 use Rattle.start_lines.specs.StartLines.{LinesPut}
-use Rattle.start_lines.specs.StartLineLaws.{start_lines_none, start_lines_turn}
+use Rattle.start_lines.specs.StartLineLaws.{start_lines_none, lines_turn}
 use borrow.Author.Rules.{rules}
 use Rattle.start_lines.proofs.put_lines.Statement.{statement}
 use Rattle.start_lines.proofs.put_lines.Tie as tie
@@ -51,7 +51,7 @@ loop-again c =
     let small : start.result.0 < 2 ^ 32 = search rules in (
       omega arith,
       put.auto.0 ∙ l.invariant.1,
-      start_lines_turn st.args.s.now st.args.out.now st.args.n l.i st.requires.0 st.requires.1 (omega arith) l.invariant.2 (ticks_of start.result) small start.ensures put.ensures,
+      lines_turn st.args.s.now st.args.out.now st.args.n l.i st.requires.0 st.requires.1 (omega arith) l.invariant.2 (ticks_of start.result) small start.ensures put.ensures,
     )
 
 same_length : tie.Need-same-length invariant-loop decreases-loop

@@ -10,10 +10,10 @@ use Rattle.rules.specs.Text.{row_line, row_lines}
 use Rattle.table.specs.Tables.{table_of}
 use Rattle.table.specs.TableLaws.{good_count, good_few}
 use Rattle.replies.specs.Replies.{row_in}
-use Rattle.replies.specs.ReplyLaws.{rows_length, rows_next, rows_end}
+use Rattle.replies.specs.ReplyLaws.{rows_end}
 use Rattle.theory.proofs.Text.{row_short, row_small}
 use Rattle.lines.specs.Lines.{Puts}
-use Rattle.text.specs.TextLaws.{lines_start, lines_turn}
+use Rattle.text.specs.TextLaws.{row-lines-none, lines_turn}
 use Rattle.text.proofs.put_row_lines.Statement.{statement}
 use Rattle.text.proofs.put_row_lines.Tie as tie
 
@@ -29,7 +29,7 @@ decreases-loop out₀ at t q end₀ i₀ out end i = t.count - i
 
 loop-holds : tie.Need-loop-init invariant-loop decreases-loop
 loop-holds c =
-    let a = c.before.args in (lines_start row_line (reply_of (table_of a.t) a.q.0).rows a.out.now a.at, omega arith, refl, omega arith)
+    let a = c.before.args in (row-lines-none (table_of a.t) a.q.0 a.out.now a.at, omega arith, refl, omega arith)
 
 row-of-requires : tie.Need-row-of-requires invariant-loop decreases-loop
 row-of-requires c κs = let s = c.before.before.before.before in (s.requires.0, omega arith, s.requires.1, s.requires.2)
@@ -66,7 +66,7 @@ loop-again c =
     let h : l.i < nops T = omega (arith, good_count s.args.t s.requires.0) in
     let small = row_small T q s.requires.0.accepted l.i h in
     let line : Puts l.out put.new.0 l.end put.result (row_line l.i (row_in T q l.i)) = rw row.ensures at put.ensures in (
-      lines_turn row_line (reply_of T q).rows s.args.out.now s.args.at l.i (row_in T q l.i) (omega (arith, rows_length T q)) (rows_next T q l.i h) l.invariant.0 line,
+      lines_turn T q s.args.out.now s.args.at l.i h l.invariant.0 line,
       omega arith,
       put.auto.0 ∙ l.invariant.2,
       omega (arith, line.1, row_short l.i (row_in T q l.i) (omega (arith, good_few s.args.t s.requires.0)) small.0 small.1, l.invariant.3),

@@ -1,0 +1,15 @@
+-- The first k operations are in the sets of their cells.
+-- Assumes nothing.
+use Prim.Native.Nat.{◌+◌, ◌-◌, ◌≤◌}
+use mathlib.Core.Path.{◌≡◌}
+use native.Mathlib.Omega.{arith}
+use lib.ListN.{get_or}
+use Rattle.cells.specs.Cells.{Added}
+use Rattle.cells.specs.UserLaws.{Turning, turning_none, turning_more, turning_all}
+use Rattle.cells.proofs.turned.Given as goal
+
+abbrev pub invariant-loop-k : goal.invariant-loop-k
+invariant-loop-k l = (l.k ≤ 32) × Turning l.cols l.at l.k l.users
+
+abbrev pub decreases-loop-k : goal.decreases-loop-k
+decreases-loop-k l = 32 - l.k

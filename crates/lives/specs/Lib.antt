@@ -1,3 +1,0 @@
-pub mod Near
-pub mod ByWalks
-pub mod Left

@@ -1,0 +1,7 @@
+-- The number behind the duration, where there is one.
+-- Assumes nothing.
+use borrow.Author.Rules.{rules}
+use Rattle.reading_ops.proofs.hold_at.Goals as goal
+
+pub returns-then-held : goal.returns-then-held
+returns-then-held c = rw c.if-held.true c.be16.ensures.0

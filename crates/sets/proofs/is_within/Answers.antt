@@ -1,0 +1,9 @@
+-- `is_within` compares s with 1 shifted by n, which is 2 ^ n since 64 bits hold it.
+-- Assumes nothing.
+use native.Mathlib.Omega.{arith}
+use Rattle.sets.specs.Laws.{one_shl}
+use borrow.Author.Rules.{rules}
+use Rattle.sets.proofs.is_within.Goals as goal
+
+pub returns : goal.returns
+returns c = rw (one_shl 64 c.args.n (omega arith))

@@ -1,0 +1,8 @@
+-- The refusal is the answer's, and the table is the empty one.
+-- Assumes nothing.
+use borrow.Author.Rules.{rules}
+use Rattle.table.specs.JudgedLaws.{denied}
+use Rattle.table.proofs.deny.Goals as goal
+
+pub returns : goal.returns
+returns c = rw c.empty.ensures (denied c.args.q)

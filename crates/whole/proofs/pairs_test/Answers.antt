@@ -1,0 +1,18 @@
+-- RACE is asked only where CLASH accepts; otherwise the clash is the answer.
+-- Assumes nothing.
+use mathlib.Core.Path.{sym, ap, ◌∙◌}
+use borrow.Author.Rules.{rules}
+use Rattle.theory.proofs.Verdicts.{then_accepts}
+use Rattle.fields.specs.Verdicts.{tested}
+use Rattle.fields.specs.RefusalLaws.{then_refusal}
+use Rattle.whole.proofs.pairs_test.Goals as goal
+
+pub returns-in-Accepted : goal.returns-in-Accepted
+returns-in-Accepted c =
+    let f = c in
+    c.first_race.ensures ∙ sym (then_accepts _ (sym f.first_clash-first.ensures ∙ ap tested c.in-Accepted.is))
+
+pub returns-in-Refused : goal.returns-in-Refused
+returns-in-Refused c =
+    let f = c in
+    sym (then_refusal c.in-Refused.r _ (sym f.first_clash-first.ensures ∙ ap tested c.in-Refused.is))
