@@ -7,11 +7,13 @@ NAMES is the names.json that `rt check --generated DIR --old-names` writes for t
 goals and steps are today's, and a chain of `.before` goes, as today's record of what is known is flat. An answer that is only
 `search rules` goes, as the check tries that by itself.
 """
+import glob
 import json
 import os
 import re
 import sys
 
+CRATES = "crates"
 W = r"[^\s(){}.;,@\"«»]+"
 alike = lambda it: re.sub(r"[-_]", "", it).lower()
 
@@ -31,19 +33,36 @@ def known_at(info, place):
     out = []
     while place is not None:
         i = by[place]
-        _, up, (old, new), _, fields = info["places"][i]
+        _, up, (old, new), callee, fields = info["places"][i]
+        fields = list(fields) + ([["lent", lent(callee)]] if callee else [])
         out.append((old, new, info["arms"][i], fields))
         place = up
     return out
 
 
+LENT = {}
+
+
+def lent(callee):
+    """The names of a function's `&mut` parameters, in order."""
+    if callee not in LENT:
+        crate, *_, name = callee.split("::")
+        LENT[callee] = []
+        for p in glob.glob(os.path.join(CRATES, crate, "src", "**", "*.rt"), recursive=True):
+            m = re.search(r"fn " + name + r"(?:<[^>]*>)?\(([^)]*)\)", open(p, encoding="utf-8").read())
+            if m:
+                LENT[callee] = [q[1] for q in re.finditer(r"(\w+): &(?:'\w+ )?mut ", m[1])]
+    return LENT[callee]
+
+
 def flat(body, known, args):
     """Paths: no .before, and today's names of steps."""
-    steps, arms, fields = {}, [], {}
+    steps, arms, fields, names = {}, [], {}, {}
     for old, new, arm, other in known:
         if old and alike(old) not in steps and not re.search(r"-1(-|$)", new):
             steps[alike(old)] = new
-            fields[new] = {a: b for a, b in other}
+            fields[new] = {a: b for a, b in other if a != "lent"}
+            names[new] = next((b for a, b in other if a == "lent"), [])
         if arm:
             for it, step, path in arm[2]:
                 arms.append(([alike(step)] + path, [arm[0], it]))
@@ -59,6 +78,12 @@ def flat(body, known, args):
                 k += 2
                 continue
             bare = re.sub(r"_lem$", "", it)
+            if it in ("new", "auto") and k + 1 < len(parts) and parts[k + 1].isdigit():
+                at = int(parts[k + 1])
+                all_names = {v[at] for v in ([names[inside]] if inside in names else names.values()) if at < len(v)}
+                out += [it, all_names.pop() if len(all_names) == 1 else parts[k + 1]]
+                k += 2
+                continue
             arm = next((a for a in arms if len(parts) - k >= len(a[0]) and [alike(bare)] + parts[k + 1 : k + len(a[0])] == a[0]), None)
             if arm and (alike(bare) not in steps or len(arm[0]) > 1):
                 out += arm[1]
@@ -209,6 +234,9 @@ def convert(crate, name, info, path):
             wanted = wanted + "\n" + first
             body = cite.sub(nm, body)
             lets = [(a, cite.sub(nm, b), cite.sub(nm, d)) for a, b, d in lets]
+        said = {it[0] for it in local}
+        unf = [" ".join(w for w in l.split(" ") if w not in said) for l in unf]
+        unf = [l for l in unf if l.strip() != "unfolding"]
         if lets:
             body = "\n" + "".join(f"    let {a} : {b}\n    = {d} in\n" for a, b, d in lets) + "    " + body.strip()
         answers.append("\n".join(note + [f"pub {new} : goal.{new}"] + unf + [(f"{new} " + " ".join(params)).rstrip() + " =" + body]))
@@ -226,7 +254,9 @@ def convert(crate, name, info, path):
 
 
 def main(argv):
+    global CRATES
     crate, names = argv[:2]
+    CRATES = os.path.join(os.path.abspath(crate), "..")
     only = set(argv[2:])
     d = json.load(open(names))
     short = os.path.basename(os.path.abspath(crate))

@@ -1,5 +1,7 @@
 // The first period at which the boards are right: distance by distance, every period is marked at which two operations that can run so many
 // cycles apart would hold one board at once.
+#![tactic(auto)]
+
 ghost use Rattle.std.specs.Prelude.{◌≡◌, List, [], ℕ, ◌+◌, ◌<◌, ◌≤◌, length, get_or};
 ghost use Rattle.columns.specs.Columns.{Short};
 ghost use Rattle.turns.specs.Turns.{TurnsBy};

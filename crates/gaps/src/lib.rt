@@ -1,5 +1,7 @@
 // The gap: the smallest time from one start of a cycle to the next at which every sequence of starts is right. It is one bound, raised by the
 // values and then by the boards; no gap is tried.
+#![tactic(auto)]
+
 ghost use Rattle.std.specs.Prelude.{◌<◌, ◌≤◌};
 ghost use Rattle.rules.specs.Gaps.{IsGap};
 ghost use Rattle.table.specs.Tables.{table_of, Good};

@@ -1,4 +1,6 @@
 // A table handed over as numbers, judged.
+#![tactic(auto)]
+
 ghost use Rattle.std.specs.Prelude.{◌≡◌, ◌≤◌, ◌∷◌, length};
 ghost use Rattle.rules.specs.Judge.{numbers_test, sets_wrong, judge_numbers};
 ghost use Rattle.fields.specs.Verdicts.{tested};

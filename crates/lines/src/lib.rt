@@ -1,4 +1,6 @@
 // The lines of the text: numbers in decimal behind words, each line at a place in a buffer.
+#![tactic(auto)]
+
 ghost use Rattle.std.specs.Prelude.{◌++◌, ◌+◌, ◌<◌, ◌≤◌, length};
 ghost use Rattle.rules.specs.Text.{decimal, row_line, period_line, refused_line};
 ghost use Rattle.rows.specs.Rows.{row_of};

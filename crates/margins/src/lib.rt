@@ -1,4 +1,6 @@
 // The margin of two operations, asked of a table's bytes.
+#![tactic(auto)]
+
 ghost use Rattle.std.specs.Prelude.{◌≡◌, ◌^◌, ◌<◌, ◌≤◌, pos, ◌-ℤ◌};
 ghost use Rattle.rules.specs.Table.{held_to};
 ghost use Rattle.rules.specs.Verdicts.{accepted, ◌then◌};

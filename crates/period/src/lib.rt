@@ -1,4 +1,6 @@
 // The period: whether boards fit and values arrive at a period, and the smallest at which both do.
+#![tactic(auto)]
+
 ghost use Rattle.std.specs.Prelude.{◌≡◌, true, ◌↔◌, ◌≤◌};
 ghost use Rattle.rules.specs.Runs.{BoardsRightAt, ValuesRightAt, spaced, IsPeriod};
 ghost use Rattle.table.specs.Tables.{table_of, Good};

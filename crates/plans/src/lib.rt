@@ -1,4 +1,6 @@
 // Planning: a table's bytes in, its reply's bytes out.
+#![tactic(auto)]
+
 ghost use Rattle.rules.specs.Answers.{IsPlan};
 ghost use Rattle.fields.specs.Verdicts.{answered, leaving};
 ghost use Rattle.table.specs.Tables.{table_of, Good};

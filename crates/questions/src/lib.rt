@@ -1,4 +1,6 @@
 // Questions about a table's bytes: whether the boards fit at a period, whether the values arrive, the period, and the gap.
+#![tactic(auto)]
+
 ghost use Rattle.rules.specs.Verdicts.{accepted, ◌then◌};
 ghost use Rattle.rules.specs.Answers.{period_asked, asked_table, IsPeriodOf, IsGapOf, BoardsFit, ValuesArrive};
 ghost use Rattle.table.specs.Tables.{table_of, Good, JudgedAs};

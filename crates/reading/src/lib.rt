@@ -1,4 +1,6 @@
 // A table's bytes, read field by field in document 01's order, with the decider's field behind them, and then judged as a whole.
+#![tactic(auto)]
+
 ghost use Rattle.std.specs.Prelude.{◌≡◌};
 ghost use Rattle.rules.specs.Verdicts.{accepted};
 ghost use Rattle.rules.specs.Judge.{head_test, judge};

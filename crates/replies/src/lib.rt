@@ -1,4 +1,6 @@
 // Replies: a table's period and rows, written as bytes.
+#![tactic(auto)]
+
 ghost use Rattle.std.specs.Prelude.{◌≡◌, ◌++◌, ◌+◌, ◌*◌, ◌<◌, ◌≤◌, length, drop};
 ghost use Rattle.rules.specs.Rows.{reply_of};
 ghost use Rattle.rules.specs.Bytes.{joined, row_bytes, reply_bytes};

@@ -1,4 +1,6 @@
 // A reply's bytes, read field by field in document 01's order, and unfolded: the starts that its rows came from.
+#![tactic(auto)]
+
 ghost use Rattle.std.specs.Prelude.{◌≡◌, ◌+◌, ◌*◌, ◌<◌, ◌≤◌, length};
 ghost use Rattle.rules.specs.Rows.{ticks, unfold_at};
 ghost use Rattle.rules.specs.Verdicts.{accepted};

@@ -1,5 +1,7 @@
 // The bound of the values: the smallest period at which every value that a later cycle takes over has been written in time. Only `values_bound`
 // takes the table; the rest goes by lent columns and followers, and visits only the operations that use a cell.
+#![tactic(auto)]
+
 ghost use Rattle.std.specs.Prelude.{◌≡◌, ◌<◌, ◌≤◌, get_or};
 ghost use Rattle.rules.specs.Table.{Table, Accepted};
 ghost use Rattle.columns.specs.Columns.{Columns, Short};

@@ -1,4 +1,6 @@
 // A table's bytes, written into a lent buffer.
+#![tactic(auto)]
+
 ghost use Rattle.std.specs.Prelude.{◌≡◌, ◌≤◌, ◌++◌, length, drop};
 ghost use Rattle.rules.specs.Bytes.{table_bytes};
 ghost use Rattle.rules.specs.Answers.{IsWrite, put};

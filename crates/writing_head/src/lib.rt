@@ -1,4 +1,6 @@
 // The fields before the operations, written into a lent buffer.
+#![tactic(auto)]
+
 ghost use Rattle.std.specs.Prelude.{◌≡◌, ◌≤◌, length, take};
 ghost use Rattle.rules.specs.Bytes.{be32, joined, head_bytes};
 ghost use Rattle.rules.specs.Judge.{ops_place};

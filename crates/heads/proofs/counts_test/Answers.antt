@@ -24,7 +24,8 @@ pub returns-in-Refused : goal.returns-in-Refused
 returns-in-Refused c = let f = c in field_bad _ _ _ _ _ c.in-Refused.r (refused_as f.field_at-v.ensures c.in-Refused.is)
 
 pub returns-in-Accepted : goal.returns-in-Accepted
-returns-in-Accepted c = let b3 = c in
+returns-in-Accepted c =
+    let b3 = c in
     let b2 = b3 in
     let b1 = b2 in
     let f = b1 in

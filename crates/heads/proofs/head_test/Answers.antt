@@ -14,28 +14,33 @@ use borrow.Author.Rules.{rules}
 use Rattle.heads.proofs.head_test.Goals as goal
 
 pub returns-in-Refused : goal.returns-in-Refused
-returns-in-Refused c = let l = c in
+returns-in-Refused c =
+    let l = c in
     sym (head_tests _ ∙ then_refusal c.in-Refused.r _ (sym (refused_as l.len_test-len.ensures c.in-Refused.is)))
 
 pub returns-in-Refused-counts : goal.returns-in-Refused-counts
-returns-in-Refused-counts c = let k = c in
+returns-in-Refused-counts c =
+    let k = c in
     let e1 = k in
     let l = e1 in
     sym (after_len _ (passed_as l.len_test-len.ensures e1.in_default.is) ∙ then_refusal c.in-Refused-counts.r _ (sym (refused_as k.counts_test-counts.ensures c.in-Refused-counts.is)))
 
 pub byte-modes-requires : goal.byte-modes-requires
-byte-modes-requires c = let k = c in
+byte-modes-requires c =
+    let k = c in
     let s = k.args.s.now in
     omega (arith, counts_fit s (passed_as k.counts_test-counts.ensures c.in_default-counts.is))
 
 pub modes_test-sets-requires : goal.modes_test-sets-requires
-modes_test-sets-requires c = let e2 = c in
+modes_test-sets-requires c =
+    let e2 = c in
     let k = e2 in
     let s = k.args.s.now in
     omega (arith, counts_fit s (passed_as k.counts_test-counts.ensures e2.in_default-counts.is))
 
 pub returns-in-Refused-sets : goal.returns-in-Refused-sets
-returns-in-Refused-sets c = let m = c in
+returns-in-Refused-sets c =
+    let m = c in
     let e2 = m in
     let k = e2 in
     let e1 = k in
@@ -46,7 +51,8 @@ returns-in-Refused-sets c = let m = c in
     ∙ then_refusal c.in-Refused-sets.r _ (sym (refused_as m.modes_test-sets.ensures c.in-Refused-sets.is ∙ ap (λ (n : ℕ). modes_test n s) modes)))
 
 pub returns-then-s-place : goal.returns-then-s-place
-returns-then-s-place c = let e3 = c in
+returns-then-s-place c =
+    let e3 = c in
     let m = e3 in
     let e2 = m in
     let k = e2 in
@@ -59,7 +65,8 @@ returns-then-s-place c = let e3 = c in
     ∙ sym (after_modes s (passed_as l.len_test-len.ensures e1.in_default.is) (passed_as k.counts_test-counts.ensures e2.in_default-counts.is) (passed_as m.modes_test-sets.ensures e3.in_default-sets.is ∙ ap (λ (n : ℕ). modes_test n s) modes) ∙ needed_no s (ops_place (num8 s 10)) (omega (arith, place)))
 
 pub returns : goal.returns
-returns c = let e3 = c in
+returns c =
+    let e3 = c in
     let m = e3 in
     let e2 = m in
     let k = e2 in

@@ -19,7 +19,8 @@ pub returns-in-Refused : goal.returns-in-Refused
 returns-in-Refused c = let f = c in field_bad _ _ _ _ _ c.in-Refused.r (refused_as f.field_at-v.ensures c.in-Refused.is)
 
 pub returns-in-Accepted : goal.returns-in-Accepted
-returns-in-Accepted c = let b = c in
+returns-in-Accepted c =
+    let b = c in
     let f = b in
     c.range_test.ensures
     ∙ field_ranged _ _ _ _ _ _ (passed_as f.field_at-v.ensures b.in-Accepted.is) (c.len_wrong-wrong.ensures ∙ ap len_wrong b.be16.ensures.0)

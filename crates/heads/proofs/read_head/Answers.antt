@@ -27,7 +27,8 @@ read_words-follow-requires c = let a = c in let fits = head_fits a.args.s.now a.
 
 pub returns : goal.returns
 unfolding head_of padded
-returns c = let e = c in
+returns c =
+    let e = c in
     let w = e in
     let f = w in
     let b3 = f in

@@ -35,7 +35,8 @@ pub loop-m-smaller : goal.loop-m-smaller
 loop-m-smaller c = omega arith
 
 pub loop-m-preserved : goal.loop-m-preserved
-loop-m-preserved c = let i = c in
+loop-m-preserved c =
+    let i = c in
     let s = i.args.s.now in (
       omega arith,
       simp length-set i.loop-m.invariant.1,
@@ -43,6 +44,7 @@ loop-m-preserved c = let i = c in
     )
 
 pub returns : goal.returns
-returns c = let i = c in
+returns c =
+    let i = c in
     let e : i.loop-m.m ≡ i.args.modes = omega arith in
     rw e at i.loop-m.invariant.2

@@ -41,7 +41,8 @@ pub overflow_add-result : goal.overflow_add-result
 overflow_add-result c = omega arith
 
 pub returns-then-not-is_set_of : goal.returns-then-not-is_set_of
-returns-then-not-is_set_of c = let i = c in
+returns-then-not-is_set_of c =
+    let i = c in
     let a = i.args in
     let ws = words a.s.now 14 (a.modes + 1) in
     let inside : i.loop-m.m < length ws = omega (arith, length_words a.s.now 14 (a.modes + 1)) in
@@ -59,7 +60,8 @@ pub loop-m-smaller : goal.loop-m-smaller
 loop-m-smaller c = omega arith
 
 pub loop-m-preserved : goal.loop-m-preserved
-loop-m-preserved c = let i = c in
+loop-m-preserved c =
+    let i = c in
     let a = i.args in
     let ws = words a.s.now 14 (a.modes + 1) in
     let inside : i.loop-m.m < length ws = omega (arith, length_words a.s.now 14 (a.modes + 1)) in
@@ -71,7 +73,8 @@ loop-m-preserved c = let i = c in
     (omega arith, i.loop-m.invariant.1 ∙ set_fine 3 a.modes ws i.loop-m.m inside e)
 
 pub returns : goal.returns
-returns c = let i = c in
+returns c =
+    let i = c in
     let a = i.args in
     let ws = words a.s.now 14 (a.modes + 1) in
     let done : length ws ≤ i.loop-m.m = omega (arith, length_words a.s.now 14 (a.modes + 1)) in

@@ -1,0 +1,22 @@
+-- The bound stands for the first n distances; the search ends where no distance that is left asks for more.
+-- Assumes nothing.
+use Prim.Native.Nat.{◌+◌, ◌-◌, ◌≤◌}
+use mathlib.Core.Path.{◌≡◌}
+use native.Mathlib.Nat.{mul-le-mul_left}
+use native.Mathlib.Omega.{arith}
+use borrow.Author.Rules.{rules}
+use lib.ListN.{get_or}
+use Rattle.theory.specs.Tests.{without, step}
+use Rattle.arrivals.specs.Arrivals.{Every, ReaderFine}
+use Rattle.raises.specs.Raises.{Raised}
+use Rattle.raises.specs.RaiseLaws.{raised_up, raised_to, cycles_fit, in_time_late}
+use Rattle.values.specs.CarryLaws.{Carried, carried_none, carried_more, carried_far, carried_seen}
+use Rattle.values.proofs.ask_turns.Given as goal
+
+abbrev pub invariant-loop-n : goal.invariant-loop-n
+invariant-loop-n l =
+    (l.n ≤ l.end) × (1 ≤ l.most) × (l.most ≤ 1000) × Carried l.follow l.cols l.readers (λ j. get_or l.fresh j 0) l.written l.end l.from l.bound l.n l.modes l.seen l.most
+
+abbrev pub decreases-loop-n : goal.decreases-loop-n
+decreases-loop-n l =
+    l.end - l.n
