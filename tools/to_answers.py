@@ -68,6 +68,8 @@ def flat(body, known, args):
                 arms.append(([alike(step)] + path, [arm[0], it]))
     arms.sort(key=lambda it: -len(it[0]))
     body = re.sub(r"(\.before)+(?![\w-])", "", body)
+    for m in re.finditer(r"let ([^\s(){}.;,@:]+) = ([^\s(){};,@]+\.given) in\s*", body):
+        body = re.sub(r"(?<![\w.'-])" + re.escape(m[1]) + r"\.", m[2] + ".", body.replace(m[0], ""))
 
     def one(m):
         parts, out, k, inside = m[1][1:].split("."), [], 0, None

@@ -1,4 +1,6 @@
 // The text for a table's bytes: folded at its period, or refused.
+#![tactic(auto)]
+
 ghost use Rattle.rules.specs.Answers.{IsFold};
 ghost use Rattle.fields.specs.Verdicts.{answered, leaving};
 ghost use Rattle.table.specs.Tables.{table_of, Good};

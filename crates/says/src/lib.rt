@@ -1,4 +1,6 @@
 // What is said for a question other than the fold's, by value: yes or no, a margin, a gap, the list of what can be asked.
+#![tactic(auto)]
+
 ghost use Rattle.std.specs.Prelude.{◌≡◌, ◌++◌, ◌+◌, ◌≤◌, nat_abs, length};
 ghost use Rattle.rules.specs.Text.{told, yes_no_line, margin_word, signed, margin_line, gap_line, longest_text};
 ghost use Rattle.rules.specs.Words.{askable};

@@ -1,4 +1,6 @@
 // The text that `fold` prints, by value: the lines of a reply or of a refusal.
+#![tactic(auto)]
+
 ghost use Rattle.std.specs.Prelude.{◌≡◌, ◌+◌, ◌*◌, ◌≤◌, length};
 ghost use Rattle.rules.specs.Rows.{reply_of};
 ghost use Rattle.rules.specs.Text.{row_lines, reply_text, text_of};

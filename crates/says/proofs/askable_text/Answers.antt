@@ -1,0 +1,9 @@
+-- The literal is the list.
+-- Assumes nothing.
+use Rattle.rules.specs.Words.{askable}
+use borrow.Author.Rules.{rules}
+use Rattle.says.proofs.askable_text.Goals as goal
+
+pub returns : goal.returns
+unfolding askable
+returns c = c.bytes_text.ensures
