@@ -79,7 +79,7 @@ def flat(body, known, args):
                 out += [it, args.get(parts[k + 1], parts[k + 1])]
                 k += 2
                 continue
-            bare = re.sub(r"_lem$", "", it)
+            bare = re.sub(r"_lem$", "", it.strip("«»"))
             if it in ("new", "auto") and k + 1 < len(parts) and parts[k + 1].isdigit():
                 at = int(parts[k + 1])
                 all_names = {v[at] for v in ([names[inside]] if inside in names else names.values()) if at < len(v)}

@@ -1,152 +1,162 @@
 // Document 01's cases, the papers' own examples, the analyzers' tables and the largest table: each file of data/ is read, and its
 // name and what `fold` prints for it are printed. Then K1 into 11 and into 12 bytes. What is expected is what the
 // independent planner prints.
-use fields::Answer;
-use libc::STDOUT_FILENO;
+#![tactic(auto)]
 
-fn line(text: &[u8]) {
-    printing::print(text);
-    printing::print(b"\n");
+ghost use Rattle.std.specs.Prelude.{◌≤◌, length, IfOk};
+
+use fields::Answer;
+use std::{fs, io};
+
+fn line(rt: &HostRuntime, text: &[u8]) {
+    printing::print(rt, text);
+    printing::print(rt, b"\n");
+}
+
+// A file's bytes, at most as many as the buffer has.
+fn read(rt: &HostRuntime, path: &str, buf: &mut [u8]) -> io::Result<usize>
+    ensures { IfOk result (λ n. n ≤ length buf.new) }
+{
+    let mut file = fs::open(rt, path)?;
+    printing::read_full(&mut file, buf)
 }
 
 // A file's name, and what is printed for its bytes.
-fn one(path: &[u8]) {
-    line(path);
-    let fd = os::open_read(path);
-    if fd < 0 {
-        os::fail(path);
-        return;
+fn one(rt: &HostRuntime, path: &str) {
+    line(rt, path.as_bytes());
+    let mut input = [0u8; 4096];
+    match read(rt, path, &mut input) {
+        Ok(n) => printing::print_fold(rt, &input[..n]),
+        Err(error) => printing::fail(rt, path, error),
     }
-    let mut input = io::buffer();
-    let n = io::read_full(fd, &mut input);
-    libc::close(fd);
-    printing::print_fold(&input[..n]);
 }
 
 // ---- document 01
 
-fn starred() {
-    one(b"k01");
-    one(b"k02");
-    one(b"k03");
-    one(b"k04");
-    one(b"k05");
-    one(b"k06");
+fn starred(rt: &HostRuntime) {
+    one(rt, "k01");
+    one(rt, "k02");
+    one(rt, "k03");
+    one(rt, "k04");
+    one(rt, "k05");
+    one(rt, "k06");
 }
 
-fn starred_rest() {
-    one(b"k07");
-    one(b"k08");
-    one(b"k09");
-    one(b"k10");
-    one(b"k10-touching");
+fn starred_rest(rt: &HostRuntime) {
+    one(rt, "k07");
+    one(rt, "k08");
+    one(rt, "k09");
+    one(rt, "k10");
+    one(rt, "k10-touching");
 }
 
-fn unstarred() {
-    one(b"empty");
-    one(b"k01-duration-5");
-    one(b"k01-duration-4");
-    one(b"k01-length-1000");
-    one(b"k01-length-1001");
-    one(b"k01-32-times");
-    one(b"k01-33-times");
+fn unstarred(rt: &HostRuntime) {
+    one(rt, "empty");
+    one(rt, "k01-duration-5");
+    one(rt, "k01-duration-4");
+    one(rt, "k01-length-1000");
+    one(rt, "k01-length-1001");
+    one(rt, "k01-32-times");
+    one(rt, "k01-33-times");
 }
 
 // ---- the papers, the analyzers, and the largest table
 
-fn papers() {
-    one(b"fig-4");
-    one(b"fig-8");
-    one(b"fig-14");
-    one(b"fig-11");
-    one(b"fig-11-every-turn");
-    one(b"knock");
+fn papers(rt: &HostRuntime) {
+    one(rt, "fig-4");
+    one(rt, "fig-8");
+    one(rt, "fig-14");
+    one(rt, "fig-11");
+    one(rt, "fig-11-every-turn");
+    one(rt, "knock");
 }
 
-fn analyzers() {
-    one(b"notch");
-    one(b"notch-cold-to-warm");
-    one(b"analyzer-typed-turns");
-    one(b"analyzer-cold-to-warm");
-    one(b"analyzer-check-reading");
-    one(b"analyzer-rinse");
+fn analyzers(rt: &HostRuntime) {
+    one(rt, "notch");
+    one(rt, "notch-cold-to-warm");
+    one(rt, "analyzer-typed-turns");
+    one(rt, "analyzer-cold-to-warm");
+    one(rt, "analyzer-check-reading");
+    one(rt, "analyzer-rinse");
 }
 
 // tables with a decider
-fn deciders() {
-    one(b"k01-decides");
-    one(b"analyzer-decides");
-    one(b"analyzer-decides-early");
-    one(b"analyzer-sorted");
+fn deciders(rt: &HostRuntime) {
+    one(rt, "k01-decides");
+    one(rt, "analyzer-decides");
+    one(rt, "analyzer-decides-early");
+    one(rt, "analyzer-sorted");
 }
 
 // tables with a hold
-fn holds() {
-    one(b"k01-hold");
-    one(b"probe");
-    one(b"probe-polarised");
-    one(b"probe-too-soon");
-    one(b"notch-polarised");
+fn holds(rt: &HostRuntime) {
+    one(rt, "k01-hold");
+    one(rt, "probe");
+    one(rt, "probe-polarised");
+    one(rt, "probe-too-soon");
+    one(rt, "notch-polarised");
 }
 
 // tables with a number or set out of its range
-fn slips() {
-    one(b"slip-board");
-    one(b"slip-followers");
-    one(b"slip-two");
-    one(b"slip-hold");
+fn slips(rt: &HostRuntime) {
+    one(rt, "slip-board");
+    one(rt, "slip-followers");
+    one(rt, "slip-two");
+    one(rt, "slip-hold");
 }
 
-fn station() {
-    one(b"largest");
+fn station(rt: &HostRuntime) {
+    one(rt, "largest");
 }
 
 // tables whose cycles the operator starts
-fn buttons() {
-    one(b"button");
-    one(b"button-rinse");
+fn buttons(rt: &HostRuntime) {
+    one(rt, "button");
+    one(rt, "button-rinse");
 }
 
 // ---- K1 into few bytes
 
-fn say(answer: Answer) {
+fn say(rt: &HostRuntime, answer: Answer) {
     match answer {
         Answer::Wrote(n) => {
-            printing::print(b"wrote ");
-            io::print_decimal(STDOUT_FILENO, n as u64);
-            printing::print(b"\n");
+            printing::print(rt, b"wrote ");
+            if let Err(error) = print!(rt; "{n}") {
+                printing::fail(rt, "standard output", error);
+            }
+            printing::print(rt, b"\n");
         }
-        Answer::Denied(r) => printing::print_refusal(r),
+        Answer::Denied(r) => printing::print_refusal(rt, r),
     }
 }
 
-fn into_few(s: &[u8]) {
+fn into_few(rt: &HostRuntime, s: &[u8]) {
     let mut eleven = [0u8; 11];
-    line(b"k01 into 11 bytes");
-    say(planner::plan(s, &mut eleven));
+    line(rt, b"k01 into 11 bytes");
+    say(rt, planner::plan(s, &mut eleven));
     let mut twelve = [0u8; 12];
-    line(b"k01 into 12 bytes");
-    say(planner::plan(s, &mut twelve));
+    line(rt, b"k01 into 12 bytes");
+    say(rt, planner::plan(s, &mut twelve));
 }
 
-fn k1_into_few() {
-    let fd = os::open_read(b"k01");
-    let mut input = io::buffer();
-    let n = io::read_full(fd, &mut input);
-    libc::close(fd);
-    into_few(&input[..n]);
+fn k1_into_few(rt: &HostRuntime) {
+    let mut input = [0u8; 4096];
+    match read(rt, "k01", &mut input) {
+        Ok(n) => into_few(rt, &input[..n]),
+        Err(error) => printing::fail(rt, "k01", error),
+    }
 }
 
-fn main() {
-    starred();
-    starred_rest();
-    unstarred();
-    papers();
-    analyzers();
-    deciders();
-    holds();
-    slips();
-    station();
-    buttons();
-    k1_into_few();
+fn main(rt: HostRuntime) {
+    starred(&rt);
+    starred_rest(&rt);
+    unstarred(&rt);
+    papers(&rt);
+    analyzers(&rt);
+    deciders(&rt);
+    holds(&rt);
+    slips(&rt);
+    station(&rt);
+    buttons(&rt);
+    k1_into_few(&rt);
 }

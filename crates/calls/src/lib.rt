@@ -1,4 +1,6 @@
 // The work of each function for C: the answer, and what its caller is told of it.
+#![tactic(auto)]
+
 ghost use Rattle.figures.specs.Figures.{figures_of};
 ghost use Rattle.handed.specs.Handed.{numbers};
 ghost use Rattle.telling.specs.Telling.{ended};

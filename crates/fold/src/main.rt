@@ -1,8 +1,10 @@
 // Reads at most 4096 bytes of standard input and prints what the words behind the program's name ask about them; without words the
 // period and the rows of a table. Words that ask nothing get the list of what can be asked, and nothing is read.
+#![tactic(auto)]
+
 ghost use Rattle.std.specs.Prelude.{◌≡◌, length};
 
-use libc::STDIN_FILENO;
+use std::env::{Env, FillError};
 use words::{Question, Word};
 
 // No word that the system hands over is longer: 131,072 bytes have room for it and its end.
@@ -15,27 +17,36 @@ fn room() -> [u8; LONGEST_WORD]
 }
 
 // Word i, counted from the program's own name.
-fn fetch(i: usize) -> Word {
+fn fetch(rt: &HostRuntime, i: usize) -> Word {
     let mut word = room();
-    let n = os::arg(i, &mut word);
-    planner::word_of(&word[..n])
+    match rt.arg(i, &mut word) {
+        Ok(n) => planner::word_of(&word[..n]),
+        Err(_) => Word::Other,
+    }
 }
 
 // The same where there are so many words behind the name; else none, and what stands for it is not looked at.
-fn word(i: usize, count: usize) -> Word {
+fn word(rt: &HostRuntime, i: usize, count: usize) -> Word {
     if count < i {
         return Word::Other;
     }
-    fetch(i)
+    fetch(rt, i)
+}
+
+// Whether the system hands over a word i.
+fn is_there(rt: &HostRuntime, i: usize) -> bool {
+    let mut none = [0u8; 0];
+    !matches!(rt.arg(i, &mut none), Err(FillError::NotPresent))
 }
 
 // How many words stand behind the program's name.
-fn word_count() -> usize {
-    let all = os::arg_count();
-    if all == 0 {
-        return 0;
+fn word_count(rt: &HostRuntime) -> usize {
+    for i in 0..usize::MAX {
+        if !is_there(rt, i + 1) {
+            return i;
+        }
     }
-    all - 1
+    usize::MAX
 }
 
 // What no words ask: no room is made for one.
@@ -51,33 +62,35 @@ fn unworded() -> Question {
 }
 
 // What the words ask. No question has more than five.
-fn question() -> Question {
-    let n = word_count();
+fn question(rt: &HostRuntime) -> Question {
+    let n = word_count(rt);
     if n == 0 {
         return unworded();
     }
     planner::question_of(
         n,
-        word(1, n),
-        word(2, n),
-        word(3, n),
-        word(4, n),
-        word(5, n),
+        word(rt, 1, n),
+        word(rt, 2, n),
+        word(rt, 3, n),
+        word(rt, 4, n),
+        word(rt, 5, n),
     )
 }
 
-fn main() {
-    let q = question();
-    if !words::is_asked(q) {
-        printing::print_answer(q, b"");
-        return;
+// What is asked about the bytes on standard input.
+fn answer(rt: &HostRuntime, q: Question) {
+    let mut input = [0u8; 4096];
+    match printing::read_full(&mut rt.stdin(), &mut input) {
+        Ok(n) => printing::print_answer(rt, q, &input[..n]),
+        Err(error) => printing::fail(rt, "standard input", error),
     }
-    let mut input = io::buffer();
-    let n = io::read_full(STDIN_FILENO, &mut input);
-    // errno is 0 when a program begins, and a word that was fetched leaves it so
-    if os::errno() != 0 {
-        os::fail(b"standard input");
-        return;
+}
+
+fn main(rt: HostRuntime) {
+    let q = question(&rt);
+    if words::is_asked(q) {
+        answer(&rt, q);
+    } else {
+        printing::print_answer(&rt, q, b"");
     }
-    printing::print_answer(q, &input[..n]);
 }

@@ -1,4 +1,6 @@
 // The planner: the public functions. Each promise is a definition of `rules` about the answer, told in document 01's numbers.
+#![tactic(auto)]
+
 ghost use Rattle.std.specs.Prelude.{◌≡◌, [], ◌∷◌};
 ghost use Rattle.rules.specs.Answers.{IsPlan, IsFold, IsUnfold, IsMargin, IsPeriodOf, IsGapOf, BoardsFit, ValuesArrive, IsWrite};
 ghost use Rattle.fields.specs.Verdicts.{answered, leaving};

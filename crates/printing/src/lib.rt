@@ -1,70 +1,97 @@
 // What the programs print.
-ghost use Rattle.std.specs.Prelude.{◌≡◌, []};
+#![tactic(auto)]
+
+ghost use Rattle.std.specs.Prelude.{◌≡◌, [], ◌≤◌, length, IfOk};
 ghost use Rattle.rules.specs.Text.{text_of};
 ghost use Rattle.rules.specs.Answers.{IsSaid, printed};
 ghost use Rattle.fields.specs.Verdicts.{refusal_of};
 ghost use Rattle.words.specs.Words.{asked_by};
 
 use fields::Refusal;
-use libc::{STDERR_FILENO, STDOUT_FILENO};
+use std::io;
+use std::io::{Print, Read};
 use words::Question;
 
+// ---- input and output
+
+// Reads until the buffer is full or the input ends: the number of bytes that were put at its front.
+pub fn read_full<R: Read>(input: &mut R, buf: &mut [u8]) -> io::Result<usize>
+    ensures { IfOk result (λ n. n ≤ length buf.new) }
+{
+    let mut done: usize = 0;
+    while done < buf.len() {
+        let n = input.read(&mut buf[done..])?;
+        if n == 0 {
+            break;
+        }
+        done += n;
+    }
+    Ok(done)
+}
+
+// Says on standard error what failed, and why. Where that fails too, nothing is left to say.
+pub fn fail(rt: &HostRuntime, what: &str, error: io::Error) {
+    eprintln!(rt; "{what}: {error}").ok();
+}
+
 // Writes bytes, or says why it cannot.
-pub fn print(bytes: &[u8]) {
-    if !io::write_all(STDOUT_FILENO, bytes) {
-        os::fail(b"standard output");
+pub fn print(rt: &HostRuntime, bytes: &[u8]) {
+    if let Err(error) = rt.write_all(bytes) {
+        fail(rt, "standard output", error);
     }
 }
 
+// ---- what is printed for a question, and for a refusal
+
 // Prints on standard output what is the text for a question, whole, and belongs there.
-fn emit_said(q: Question, s: &[u8], text: &[u8])
+fn emit_said(rt: &HostRuntime, q: Question, s: &[u8], text: &[u8])
     requires { IsSaid (asked_by q) s.now text.now × (printed (asked_by q) text.now ≡ record { out = text.now; err = [] }) }
 {
-    print(text);
+    print(rt, text);
 }
 
 // Prints on standard error what is the text for a question, whole, and belongs there.
-fn emit_list(q: Question, s: &[u8], text: &[u8])
+fn emit_list(rt: &HostRuntime, q: Question, s: &[u8], text: &[u8])
     requires { IsSaid (asked_by q) s.now text.now × (printed (asked_by q) text.now ≡ record { out = []; err = text.now }) }
 {
-    io::write_all(STDERR_FILENO, text);
+    rt.stderr().write_all(text).ok();
 }
 
 // Prints what is the text for a question, whole, on the stream where it belongs.
-fn emit(q: Question, s: &[u8], text: &[u8])
+fn emit(rt: &HostRuntime, q: Question, s: &[u8], text: &[u8])
     requires { IsSaid (asked_by q) s.now text.now }
 {
     if words::is_asked(q) {
-        emit_said(q, s, text);
+        emit_said(rt, q, s, text);
     } else {
-        emit_list(q, s, text);
+        emit_list(rt, q, s, text);
     }
 }
 
 // The text for a question about the bytes on standard input.
-pub fn print_answer(q: Question, s: &[u8]) {
+pub fn print_answer(rt: &HostRuntime, q: Question, s: &[u8]) {
     let t = planner::say(q, s);
     let n = t.len;
     let bytes = t.bytes;
-    emit(q, s, &bytes[..n]);
+    emit(rt, q, s, &bytes[..n]);
 }
 
 // The text for a table's bytes.
-pub fn print_fold(s: &[u8]) {
-    print_answer(Question::Fold, s);
+pub fn print_fold(rt: &HostRuntime, s: &[u8]) {
+    print_answer(rt, Question::Fold, s);
 }
 
 // Prints what is the line of a refusal, whole, and nothing else.
-fn emit_line(r: Refusal, line: &[u8])
+fn emit_line(rt: &HostRuntime, r: Refusal, line: &[u8])
     requires { line.now ≡ text_of (refusal_of r) }
 {
-    print(line);
+    print(rt, line);
 }
 
 // The line of a refusal.
-pub fn print_refusal(r: Refusal) {
+pub fn print_refusal(rt: &HostRuntime, r: Refusal) {
     let line = text::refusal_text(r);
     let n = line.len;
     let bytes = line.bytes;
-    emit_line(r, &bytes[..n]);
+    emit_line(rt, r, &bytes[..n]);
 }

@@ -1,4 +1,6 @@
 // What the program says for a question about the bytes on its standard input.
+#![tactic(auto)]
+
 ghost use Rattle.saying.specs.Said.{SaidFor};
 
 use text::Text;

@@ -1,4 +1,6 @@
 // What a C caller is told of the code's answers.
+#![tactic(auto)]
+
 ghost use Rattle.std.specs.Prelude.{◌≡◌, cond};
 ghost use Rattle.fields.specs.Verdicts.{verdict_on, answered};
 ghost use Rattle.figures.specs.Figures.{figures_of};

@@ -1,0 +1,10 @@
+-- What `tell` leaves is what is told of the answer of `boards_fit`.
+-- Assumes nothing.
+use mathlib.Core.Path.{◌∙◌}
+use borrow.Author.Rules.{rules}
+use Rattle.calls.proofs.boards_fit.Goals as goal
+
+pub returns : goal.returns
+returns c =
+    let x = c in
+    (_, x.boards_fit-truth.ensures, c.tell.ensures ∙ x.truth_told.ensures)

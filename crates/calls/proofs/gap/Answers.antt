@@ -1,0 +1,10 @@
+-- What `tell` leaves is what is told of the answer of `gap_of`.
+-- Assumes nothing.
+use mathlib.Core.Path.{◌∙◌}
+use borrow.Author.Rules.{rules}
+use Rattle.calls.proofs.gap.Goals as goal
+
+pub returns : goal.returns
+returns c =
+    let x = c in
+    (_, x.gap_of-found.ensures, c.tell.ensures ∙ x.found_told.ensures)

@@ -1,0 +1,11 @@
+-- What `tell` leaves is what is told of the answer of `margin`, and the margin is left where it is wanted.
+-- Assumes nothing.
+use mathlib.Core.Path.{◌∙◌}
+use Rattle.telling.specs.TellingLaws.{ended_told}
+use borrow.Author.Rules.{rules}
+use Rattle.calls.proofs.margin.Goals as goal
+
+pub returns : goal.returns
+returns c =
+    let x = c in
+    (_, x.margin-measured.ensures, ended_told c.tell.ensures ∙ x.measured_told.ensures)

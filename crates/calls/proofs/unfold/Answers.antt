@@ -1,0 +1,11 @@
+-- What `tell` leaves is what is told of the answer of `unfold`, which also leaves the buffer as it has to be.
+-- Assumes nothing.
+use mathlib.Core.Path.{◌∙◌}
+use Rattle.telling.specs.TellingLaws.{ended_told}
+use borrow.Author.Rules.{rules}
+use Rattle.calls.proofs.unfold.Goals as goal
+
+pub returns : goal.returns
+returns c =
+    let x = c in
+    (_, x.unfold-starts.ensures, ended_told (c.tell.ensures ∙ x.answer_told.ensures))
