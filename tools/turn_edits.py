@@ -31,6 +31,7 @@ def main(argv):
             print("gone:", path)
             continue
         out, bad = [l for l in it["head"] if l.strip()], []
+        kept, applied = list(out), {}
         for f in it["files"]:
             own = os.path.join(root, "crates", it["crate"], f)
             if not os.path.exists(own):
@@ -39,6 +40,7 @@ def main(argv):
             before = lines(os.path.join(turned, "crates", it["crate"], f))
             after = lines(os.path.join(turned, "crates", it["z"].split("/")[1], f))
             now = open(own, encoding="utf-8").read()
+            applied[f] = now
             out.append("file: " + f)
             for op, a, b, c, d in difflib.SequenceMatcher(None, before, after, autojunk=False).get_opcodes():
                 if op == "equal":
@@ -56,6 +58,25 @@ def main(argv):
                         continue
                     out += ["old: " + x, "new: " + y]
                     now = now.replace(x, y)
+                    applied[f] = now
+        # what still stands as it was stays as it was
+        for f in it["files"]:
+            kept.append("file: " + f)
+            own = os.path.join(root, "crates", it["crate"], f)
+            was = open(own, encoding="utf-8").read() if os.path.exists(own) else ""
+            now = was
+            for g, x, y in it["pairs"]:
+                if g == f and once(now, x):
+                    kept += ["old: " + x, "new: " + y]
+                    now = now.replace(x, y)
+                elif g == f:
+                    kept = None
+                    break
+            if kept is None or now != applied.get(f):
+                kept = None
+                break
+        if kept:
+            out, bad = kept, []
         if bad:
             print("by hand:", path)
             for b in bad:

@@ -1,7 +1,7 @@
 -- A question about q goes on from the verdict on the table: ASK, or the table with what is known of it then.
 -- Assumes nothing.
 use Rattle.std.specs.Prelude.{ℕ, ◌≤◌, ◌≡◌, Bool, List}
-use Rattle.std.proofs.Common.{ap, subst}
+use Rattle.std.proofs.Common.{ap}
 use Rattle.std.proofs.Math.Path.{subst⁻¹}
 use Rattle.rules.specs.Table.{Table}
 use Rattle.rules.specs.Verdicts.{Verdict, accepted, ◌then◌}

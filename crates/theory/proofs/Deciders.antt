@@ -11,8 +11,8 @@ use lib.ListN.{length}
 use borrow.Author.Tests.{not-false}
 use Rattle.rules.specs.Table.{Decider, nobody, decides, Table, nops, op, end_of, held_to, SetOf, Always, DecidedBy, Decided, Accepted}
 use Rattle.rules.specs.Runs.{mode, IsRun, Runs, BoardsRightAt, Right, spaced}
-use Rattle.rules.specs.Verdicts.{refused, EARLY, Test, refuse_if, each}
-use Rattle.rules.specs.Judge.{always, early, early_test}
+use Rattle.rules.specs.Verdicts.{refused, EARLY, Test, refuse_if}
+use Rattle.rules.specs.Judge.{early, early_test}
 use Rattle.theory.specs.Deciders.{FirstEarly, itself, lowest}
 use Rattle.theory.proofs.Order.{later}
 use Rattle.theory.proofs.Says.{says_false, says_not}

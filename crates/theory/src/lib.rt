@@ -1,4 +1,6 @@
 // Theorems about the rules, in proofs/. No function but this one, which a crate has to have.
+#![tactic(auto)]
+
 ghost use Rattle.std.specs.Prelude.{◌≡◌};
 
 pub fn none() -> u32

@@ -1,4 +1,6 @@
 // The functions for C, as include/trevozhil.h declares them. Each is one call.
+#![tactic(auto)]
+
 ghost use Rattle.figures.specs.Figures.{figures_of};
 ghost use Rattle.handed.specs.Handed.{numbers};
 ghost use Rattle.telling.specs.Telling.{ended};

@@ -1,6 +1,6 @@
 -- Laws of the operations' bytes: one operation in its form, and how many bytes the first of them have.
 -- Assumes nothing.
-use Rattle.std.specs.Prelude.{ℕ, ◌+◌, ◌≡◌, refl, Bool, List, [], ◌∷◌, ◌++◌, map, length, take}
+use Rattle.std.specs.Prelude.{ℕ, ◌≡◌, refl, Bool, List, [], ◌∷◌, ◌++◌, map, length, take}
 use Rattle.std.proofs.Common.{sym, ap}
 use Rattle.rules.specs.Table.{Op}
 use Rattle.rules.specs.Bytes.{joined, op_form, settles, op_bytes}

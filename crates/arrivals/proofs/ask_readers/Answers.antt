@@ -1,6 +1,6 @@
 -- The bound is raised by the readers that were visited.
 -- Assumes nothing.
-use Prim.Native.Nat.{◌^◌, ◌≤◌}
+use Prim.Native.Nat.{◌^◌}
 use mathlib.Core.Path.{◌≡◌}
 use native.Mathlib.Omega.{arith}
 use lib.ListN.{get_or}
@@ -9,7 +9,7 @@ use Rattle.theory.proofs.Sets.{in_small}
 use Rattle.sets.specs.Members.{rest_less}
 use Rattle.arrivals.specs.Arrivals.{ReaderFine}
 use Rattle.raises.specs.Raises.{Raised}
-use Rattle.arrivals.specs.EachLaws.{Raising, every_none, every_more, every_all}
+use Rattle.arrivals.specs.EachLaws.{every_none, every_more, every_all}
 use Rattle.raises.specs.RaiseLaws.{raised_to, in_time_late}
 use Rattle.arrivals.proofs.ask_readers.Goals as goal
 

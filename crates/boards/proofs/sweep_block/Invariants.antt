@@ -1,15 +1,10 @@
 -- The first k distances of the block are swept; where it ends early, the others ask for nothing.
 -- Assumes nothing.
-use Prim.Native.Nat.{ℕ, ◌+◌, ◌-◌, ◌*◌, ◌<◌, ◌≤◌}
-use mathlib.Core.Path.{◌≡◌}
+use Prim.Native.Nat.{ℕ, ◌+◌, ◌-◌, ◌<◌, ◌≤◌}
 use mathlib.Core.List.{List, []}
-use native.Mathlib.Omega.{arith}
-use borrow.Author.Rules.{rules}
 use lib.ListN.{get_or}
 use Rattle.turns.specs.Turns.{TurnsBy}
-use Rattle.raises.specs.RaiseLaws.{cycles_fit}
 use Rattle.boards.specs.Boards.{Sized, Swept}
-use Rattle.boards.specs.SweptLaws.{swept_at, swept_rest, none_far, none_left_lem, distance_fits}
 use Rattle.boards.proofs.sweep_block.Given as goal
 
 abbrev pub invariant-loop-k : goal.invariant-loop-k

@@ -1,16 +1,10 @@
 -- The first `done` distances are swept, and `last` is the row of the last of them.
 -- Assumes nothing.
-use Prim.Native.Nat.{ℕ, ◌+◌, ◌-◌, ◌*◌, ◌<◌, ◌≤◌}
-use mathlib.Core.Path.{◌≡◌, subst}
-use mathlib.Core.List.{[]}
-use native.Mathlib.Omega.{arith}
-use borrow.Author.Rules.{rules}
-use lib.ListN.{length, get_or}
+use Prim.Native.Nat.{ℕ, ◌-◌, ◌≤◌}
+use mathlib.Core.Path.{◌≡◌}
+use lib.ListN.{length}
 use Rattle.turns.specs.Turns.{TurnsBy}
-use Rattle.turns.specs.TurnLaws.{turns_first, block_turns, length_block}
-use Rattle.raises.specs.RaiseLaws.{cycles_fit}
 use Rattle.boards.specs.Boards.{Sized, Swept}
-use Rattle.boards.specs.SweptLaws.{swept_end, none_far, none_left_lem, distance_fits}
 use Rattle.boards.proofs.sweep_rest.Given as goal
 
 abbrev pub invariant-loop-done : goal.invariant-loop-done

@@ -1,7 +1,6 @@
 -- What `tell` leaves is what is told of the answer of `gap_of`.
 -- Assumes nothing.
 use mathlib.Core.Path.{◌∙◌}
-use borrow.Author.Rules.{rules}
 use Rattle.calls.proofs.gap.Goals as goal
 
 pub returns : goal.returns

@@ -2,7 +2,6 @@
 -- Assumes nothing.
 use mathlib.Core.Path.{◌∙◌}
 use Rattle.telling.specs.TellingLaws.{ended_told}
-use borrow.Author.Rules.{rules}
 use Rattle.calls.proofs.margin.Goals as goal
 
 pub returns : goal.returns

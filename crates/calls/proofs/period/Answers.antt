@@ -1,7 +1,6 @@
 -- What `tell` leaves is what is told of the answer of `period_of`.
 -- Assumes nothing.
 use mathlib.Core.Path.{◌∙◌}
-use borrow.Author.Rules.{rules}
 use Rattle.calls.proofs.period.Goals as goal
 
 pub returns : goal.returns

@@ -3,12 +3,10 @@
 use Prim.Native.Nat.{◌^◌}
 use mathlib.Core.Path.{◌≡◌}
 use native.Mathlib.Omega.{arith}
-use borrow.Author.Rules.{rules}
-use lib.ListN.{length}
 use Rattle.theory.specs.Tests.{without}
 use Rattle.theory.proofs.Sets.{in_small}
 use Rattle.sets.specs.Members.{rest_less}
-use Rattle.cells.specs.UserLaws.{Adding, adding_none, adding_more, adding_all}
+use Rattle.cells.specs.UserLaws.{adding_none, adding_more, adding_all}
 use Rattle.cells.proofs.add_user.Goals as goal
 
 pub loop-left-init : goal.loop-left-init

@@ -2,13 +2,12 @@
 -- Assumes nothing.
 use Prim.Native.Nat.{◌^◌, ◌≤◌}
 use mathlib.Core.Path.{◌≡◌}
-use mathlib.Core.Logic.{⊎_elim}
 use native.Mathlib.Omega.{arith}
 use Rattle.theory.specs.Tests.{without}
 use Rattle.theory.proofs.Sets.{in_small}
 use Rattle.sets.specs.Members.{rest_less}
 use Rattle.columns.specs.Columns.{op_by}
-use Rattle.cells.specs.WalkLaws.{Walked, walked_none, EarlyAt, early_more, early_all}
+use Rattle.cells.specs.WalkLaws.{walked_none, early_more, early_all}
 use Rattle.cells.proofs.earliest.Goals as goal
 use Rattle.cells.proofs.earliest.Goals.{then-start-early, else-start-early}
 

@@ -1,15 +1,10 @@
 -- `ended_within` goes over the members of ops from the lowest up: the modes of those that it has passed, and those of what is left, are the modes
 -- of all.
 -- Assumes nothing.
-use Prim.Native.Nat.{◌^◌, ◌≤◌}
-use mathlib.Core.Path.{◌≡◌, sym, ◌∙◌}
-use native.Mathlib.Omega.{arith}
-use lib.Bits.{bit_or, or_zero_l, or_zero_r}
-use Rattle.theory.specs.Tests.{without}
-use Rattle.theory.proofs.Sets.{in_small}
-use Rattle.sets.specs.Members.{rest_less}
+use Prim.Native.Nat.{◌≤◌}
+use mathlib.Core.Path.{◌≡◌}
+use lib.Bits.{bit_or}
 use Rattle.cells.specs.Cells.{ended_in}
-use Rattle.cells.specs.WriteLaws.{ended_none, ended_on}
 use Rattle.cells.proofs.ended_within.Given as goal
 
 abbrev pub invariant-loop-left : goal.invariant-loop-left

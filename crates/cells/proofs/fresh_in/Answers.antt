@@ -1,7 +1,6 @@
 -- Of the modes of a reader those are left in which no writer ends by its start.
 -- Assumes nothing.
 use mathlib.Core.Path.{◌≡◌}
-use borrow.Author.Rules.{rules}
 use Rattle.cells.specs.Cells.{ended_in, fresh_of}
 use Rattle.cells.proofs.fresh_in.Goals as goal
 

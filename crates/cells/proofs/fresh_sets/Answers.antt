@@ -3,11 +3,11 @@
 use Prim.Native.Nat.{◌^◌}
 use mathlib.Core.Path.{◌≡◌, refl}
 use native.Mathlib.Omega.{arith}
-use lib.ListN.{length, length-set}
+use lib.ListN.{length-set}
 use Rattle.theory.specs.Tests.{without}
 use Rattle.theory.proofs.Sets.{in_small}
 use Rattle.sets.specs.Members.{rest_less}
-use Rattle.cells.specs.WalkLaws.{Walked, walked_none, FreshAt, fresh_more, fresh_all}
+use Rattle.cells.specs.WalkLaws.{walked_none, fresh_more, fresh_all}
 use Rattle.cells.proofs.fresh_sets.Goals as goal
 
 pub loop-left-init : goal.loop-left-init

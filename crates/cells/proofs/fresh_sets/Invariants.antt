@@ -1,13 +1,8 @@
 -- The sets of the readers that were visited are there.
 -- Assumes nothing.
-use Prim.Native.Nat.{◌^◌}
-use mathlib.Core.Path.{◌≡◌, refl}
-use native.Mathlib.Omega.{arith}
-use lib.ListN.{length, length-set}
-use Rattle.theory.specs.Tests.{without}
-use Rattle.theory.proofs.Sets.{in_small}
-use Rattle.sets.specs.Members.{rest_less}
-use Rattle.cells.specs.WalkLaws.{Walked, walked_none, FreshAt, fresh_more, fresh_all}
+use mathlib.Core.Path.{◌≡◌}
+use lib.ListN.{length}
+use Rattle.cells.specs.WalkLaws.{Walked, FreshAt}
 use Rattle.cells.proofs.fresh_sets.Given as goal
 
 abbrev pub invariant-loop-left : goal.invariant-loop-left

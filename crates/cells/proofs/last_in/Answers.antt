@@ -1,7 +1,6 @@
 -- Of the modes of a writer those are left in which no other ends after it.
 -- Assumes nothing.
 use mathlib.Core.Path.{◌≡◌}
-use borrow.Author.Rules.{rules}
 use Rattle.cells.specs.Cells.{ended_in, last_of}
 use Rattle.cells.proofs.last_in.Goals as goal
 

@@ -1,11 +1,11 @@
 -- The first k operations are in the sets of their cells.
 -- Assumes nothing.
-use Prim.Native.Nat.{◌+◌, ◌-◌, ◌≤◌}
+use Prim.Native.Nat.{◌+◌}
 use mathlib.Core.Path.{◌≡◌}
 use native.Mathlib.Omega.{arith}
 use lib.ListN.{get_or}
 use Rattle.cells.specs.Cells.{Added}
-use Rattle.cells.specs.UserLaws.{Turning, turning_none, turning_more, turning_all}
+use Rattle.cells.specs.UserLaws.{turning_none, turning_more, turning_all}
 use Rattle.cells.proofs.turned.Goals as goal
 
 pub loop-k-init : goal.loop-k-init

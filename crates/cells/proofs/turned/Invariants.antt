@@ -1,11 +1,7 @@
 -- The first k operations are in the sets of their cells.
 -- Assumes nothing.
-use Prim.Native.Nat.{◌+◌, ◌-◌, ◌≤◌}
-use mathlib.Core.Path.{◌≡◌}
-use native.Mathlib.Omega.{arith}
-use lib.ListN.{get_or}
-use Rattle.cells.specs.Cells.{Added}
-use Rattle.cells.specs.UserLaws.{Turning, turning_none, turning_more, turning_all}
+use Prim.Native.Nat.{◌-◌, ◌≤◌}
+use Rattle.cells.specs.UserLaws.{Turning}
 use Rattle.cells.proofs.turned.Given as goal
 
 abbrev pub invariant-loop-k : goal.invariant-loop-k

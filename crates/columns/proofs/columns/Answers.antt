@@ -1,13 +1,9 @@
 -- The first k operations are in their places.
 -- Assumes nothing.
-use Prim.Native.Nat.{◌+◌, ◌-◌, ◌≤◌}
+use Prim.Native.Nat.{◌+◌}
 use mathlib.Core.Path.{◌≡◌, ◌∙◌}
-use mathlib.Core.List.{map}
 use native.Mathlib.Omega.{arith}
-use lib.ListN.{take}
-use Rattle.rules.specs.Table.{Table, nops}
-use Rattle.table.specs.Tables.{op_of}
-use Rattle.columns.specs.Columns.{HeldShort}
+use Rattle.rules.specs.Table.{nops}
 use Rattle.columns.specs.ColumnLaws.{Filled, filled_none, filled_more, filled_all, op_in_lem, ops_count}
 use Rattle.columns.proofs.columns.Goals as goal
 

@@ -1,7 +1,6 @@
 -- The date is there, and is not before the start.
 -- Assumes nothing.
 use native.Mathlib.Omega.{arith}
-use borrow.Author.Rules.{rules}
 use Rattle.columns.proofs.end.Goals as goal
 
 pub returns : goal.returns

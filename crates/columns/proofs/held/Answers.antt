@@ -1,7 +1,6 @@
 -- The date is there, and the three dates are in order.
 -- Assumes nothing.
 use native.Mathlib.Omega.{arith}
-use borrow.Author.Rules.{rules}
 use Rattle.columns.proofs.held.Goals as goal
 
 pub returns : goal.returns

@@ -3,7 +3,6 @@
 use Prim.Native.Nat.{ℕ}
 use mathlib.Core.Path.{sym, ap, ◌∙◌}
 use native.Mathlib.Omega.{arith}
-use borrow.Author.Rules.{rules}
 use Rattle.rules.specs.Table.{decides}
 use Rattle.rules.specs.Judge.{decider_wrong}
 use Rattle.theory.proofs.Ranges.{decider_within}

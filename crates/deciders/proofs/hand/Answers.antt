@@ -1,6 +1,5 @@
 -- A refusal of what stands before stays; of a table that was accepted the decider is judged.
 -- Assumes nothing.
-use borrow.Author.Rules.{rules}
 use Rattle.table.specs.JudgedLaws.{going_refused, going_accepted}
 use Rattle.deciders.proofs.hand.Goals as goal
 

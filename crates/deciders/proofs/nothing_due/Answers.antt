@@ -2,7 +2,6 @@
 -- Assumes nothing.
 use mathlib.Core.Path.{sym}
 use native.Mathlib.Omega.{arith}
-use borrow.Author.Rules.{rules}
 use Rattle.deciders.specs.DeciderLaws.{nothing_end, nothing_cut, nothing_order}
 use Rattle.deciders.proofs.nothing_due.Goals as goal
 

@@ -2,7 +2,6 @@
 -- Assumes nothing.
 use mathlib.Core.Path.{ap, ◌∙◌}
 use native.Mathlib.Omega.{arith}
-use borrow.Author.Rules.{rules}
 use Rattle.rules.specs.Table.{decides}
 use Rattle.deciders.specs.DeciderLaws.{who_none, who_some}
 use Rattle.deciders.proofs.who_at.Goals as goal

@@ -1,7 +1,6 @@
 -- An operation that runs in every mode is never too early; another one is by its start.
 -- Assumes nothing.
 use mathlib.Core.Path.{◌≡◌, sym, ◌∙◌}
-use borrow.Author.Rules.{rules}
 use Rattle.rules.specs.Table.{end_of}
 use Rattle.table.specs.Tables.{op_of}
 use Rattle.early.proofs.too_early.Goals as goal

@@ -5,7 +5,6 @@ use mathlib.Core.Path.{sym, ◌∙◌}
 use native.Mathlib.Omega.{arith}
 use lib.ListN.{length}
 use Rattle.fields.specs.FieldLaws.{field_missing, field_cut, field_other, field_due}
-use borrow.Author.Rules.{rules}
 use Rattle.fields.proofs.field_test.Goals as goal
 
 pub returns-then-n-at : goal.returns-then-n-at

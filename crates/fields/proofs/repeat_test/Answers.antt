@@ -5,7 +5,6 @@ use mathlib.Core.Path.{sym, ◌∙◌}
 use native.Mathlib.Omega.{arith}
 use lib.ListN.{length}
 use Rattle.fields.specs.FieldLaws.{repeat_cut, repeat_other, repeat_many, repeat_due}
-use borrow.Author.Rules.{rules}
 use Rattle.fields.proofs.repeat_test.Goals as goal
 
 pub returns-then-s-at-lt3 : goal.returns-then-s-at-lt3

@@ -5,7 +5,6 @@ use mathlib.Core.Path.{sym, ◌∙◌}
 use native.Mathlib.Omega.{arith}
 use lib.ListN.{length}
 use Rattle.fields.specs.FieldLaws.{sized_other, sized_short, sized_whole}
-use borrow.Author.Rules.{rules}
 use Rattle.fields.proofs.sized_test.Goals as goal
 
 pub returns-then-be16-size : goal.returns-then-be16-size

@@ -1,6 +1,5 @@
 -- In each case the figures are those that `refusal_of` gives it.
 -- Assumes nothing.
-use borrow.Author.Rules.{rules}
 use Rattle.figures.proofs.figures_of.Goals as goal
 
 pub returns-in-Short : goal.returns-in-Short

@@ -4,7 +4,6 @@ use native.Mathlib.Omega.{arith}
 use lib.ListN.{take, length-take}
 use Rattle.text.specs.TextLaws.{text_fits}
 use Rattle.folds.specs.FoldLaws.{text_is}
-use borrow.Author.Rules.{rules}
 use Rattle.folds.proofs.fold.Goals as goal
 
 pub slice_bounds-bytes-end : goal.slice_bounds-bytes-end

@@ -1,7 +1,6 @@
 -- The text is that of the reply at the smallest right period.
 -- Assumes nothing.
 use native.Mathlib.Omega.{arith}
-use borrow.Author.Rules.{rules}
 use Rattle.folds.proofs.table_text.Goals as goal
 
 pub reply_text-requires : goal.reply_text-requires

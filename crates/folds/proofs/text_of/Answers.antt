@@ -4,7 +4,6 @@ use Rattle.rules.specs.Judge.{judge}
 use Rattle.theory.proofs.Judging.{judge_accepted}
 use Rattle.table.specs.JudgedLaws.{judged_accepted, judged_refused, took_good, took_table}
 use Rattle.folds.specs.FoldLaws.{text_refused, text_accepted}
-use borrow.Author.Rules.{rules}
 use Rattle.folds.proofs.text_of.Goals as goal
 
 pub table_text-requires : goal.table_text-requires

@@ -1,10 +1,7 @@
 -- The bound is raised by the first i operations.
 -- Assumes nothing.
-use Prim.Native.Nat.{◌-◌, ◌≤◌}
 use mathlib.Core.Path.{◌≡◌}
 use native.Mathlib.Omega.{arith}
-use borrow.Author.Rules.{rules}
-use Rattle.arrivals.specs.Arrivals.{Each}
 use Rattle.arrivals.specs.EachLaws.{each_none, each_more}
 use Rattle.raises.specs.Raises.{Raised}
 use Rattle.raises.specs.RaiseLaws.{raised_up, raised_to}

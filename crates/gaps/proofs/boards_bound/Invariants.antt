@@ -1,15 +1,9 @@
 -- The bound is raised by the first i operations.
 -- Assumes nothing.
 use Prim.Native.Nat.{◌-◌, ◌≤◌}
-use mathlib.Core.Path.{◌≡◌}
-use native.Mathlib.Omega.{arith}
-use borrow.Author.Rules.{rules}
 use Rattle.arrivals.specs.Arrivals.{Each}
-use Rattle.arrivals.specs.EachLaws.{each_none, each_more}
 use Rattle.raises.specs.Raises.{Raised}
-use Rattle.raises.specs.RaiseLaws.{raised_up, raised_to}
 use Rattle.gaps.specs.Holders.{HolderFine}
-use Rattle.gaps.specs.HolderLaws.{holder_late}
 use Rattle.gaps.proofs.boards_bound.Given as goal
 
 abbrev pub invariant-loop-i : goal.invariant-loop-i

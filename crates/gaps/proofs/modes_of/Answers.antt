@@ -1,10 +1,8 @@
 -- The modes of the first j operations are in their places.
 -- Assumes nothing.
-use Prim.Native.Nat.{◌-◌, ◌≤◌}
 use mathlib.Core.Path.{◌≡◌, refl}
 use native.Mathlib.Omega.{arith}
-use lib.ListN.{length, length-set}
-use Rattle.gaps.specs.Holders.{ModesOf}
+use lib.ListN.{length-set}
 use Rattle.gaps.specs.HolderLaws.{modes_more}
 use Rattle.gaps.proofs.modes_of.Goals as goal
 

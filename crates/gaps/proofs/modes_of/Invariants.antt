@@ -1,11 +1,9 @@
 -- The modes of the first j operations are in their places.
 -- Assumes nothing.
 use Prim.Native.Nat.{◌-◌, ◌≤◌}
-use mathlib.Core.Path.{◌≡◌, refl}
-use native.Mathlib.Omega.{arith}
-use lib.ListN.{length, length-set}
+use mathlib.Core.Path.{◌≡◌}
+use lib.ListN.{length}
 use Rattle.gaps.specs.Holders.{ModesOf}
-use Rattle.gaps.specs.HolderLaws.{modes_more}
 use Rattle.gaps.proofs.modes_of.Given as goal
 
 abbrev pub invariant-loop-j : goal.invariant-loop-j

@@ -8,7 +8,6 @@ use Rattle.arrivals.specs.Arrivals.{Each}
 use Rattle.raises.specs.Raises.{Raised}
 use Rattle.values.specs.Bounds.{IsBound}
 use Rattle.period.specs.PeriodLaws.{columns_asked, columns_found, reach_found, values_asked_lem, values_found}
-use borrow.Author.Rules.{rules}
 use Rattle.gaps.specs.Holders.{HolderFine}
 use Rattle.gaps.specs.HolderLaws.{raised_gap}
 use Rattle.gaps.proofs.smallest.Goals as goal

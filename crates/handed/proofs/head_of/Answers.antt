@@ -1,6 +1,5 @@
 -- Each number fits, and nothing stands behind the words and among the operations but zero.
 -- Assumes nothing.
-use borrow.Author.Rules.{rules}
 use Rattle.table.specs.Tables.{padded}
 use Rattle.handed.proofs.head_of.Goals as goal
 

@@ -3,7 +3,6 @@
 use Prim.Native.Nat.{ℕ}
 use mathlib.Core.Path.{sym, ap, ◌∙◌}
 use native.Mathlib.Omega.{arith}
-use borrow.Author.Rules.{rules}
 use Rattle.rules.specs.Verdicts.{refused, ORDER}
 use Rattle.theory.proofs.Ranges.{counts_within, sets_within}
 use Rattle.handed.specs.HeadLaws.{test_len, test_counts, test_size, test_sets, test_none, test_some, counts_small}

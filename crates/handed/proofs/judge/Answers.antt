@@ -1,6 +1,5 @@
 -- The fields are judged, then the decider, and what they make is judged whole.
 -- Assumes nothing.
-use borrow.Author.Rules.{rules}
 use Rattle.rules.specs.Judge.{Numbers}
 use Rattle.handed.specs.Handed.{numbers}
 use Rattle.handed.specs.JudgeLaws.{numbers_tidy, numbers_behind, whole_ready, numbers_whole}

@@ -1,7 +1,6 @@
 -- The tests before the operations come first, and the verdict on the operations is the rest.
 -- Assumes nothing.
 use mathlib.Core.Path.{sym, ap, ◌∙◌}
-use borrow.Author.Rules.{rules}
 use Rattle.fields.specs.Verdicts.{tested}
 use Rattle.handed.specs.HeadLaws.{test_small, verdict_refused, verdict_ops}
 use Rattle.handed.specs.JudgeLaws.{head_back, head_ready}

@@ -3,7 +3,6 @@
 use Prim.Native.Nat.{◌*◌, ◌<◌, ◌≤◌}
 use native.Mathlib.Omega.{arith}
 use lib.ListN.{length}
-use borrow.Author.Rules.{rules}
 use Rattle.handed_ops.specs.OpsLaws.{left_of_six, left_beside}
 use Rattle.handed_ops.proofs.none_left.Goals as goal
 

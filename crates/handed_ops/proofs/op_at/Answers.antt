@@ -1,7 +1,6 @@
 -- Numbers in their ranges become the operation that they are.
 -- Assumes nothing.
 use mathlib.Core.Path.{sym, ap, ◌∙◌}
-use borrow.Author.Rules.{rules}
 use Rattle.rules.specs.Table.{Op}
 use Rattle.table.specs.Tables.{op_in}
 use Rattle.handed_ops.specs.OpsLaws.{op_plain}

@@ -6,7 +6,6 @@ use mathlib.Core.Bool.{Bool}
 use mathlib.Core.Logic.{inl, inr}
 use native.Mathlib.Omega.{arith}
 use lib.ListN.{length}
-use borrow.Author.Rules.{rules}
 use Rattle.rules.specs.Table.{Op}
 use Rattle.rules.specs.Judge.{ranged, op_wrong}
 use Rattle.theory.proofs.Ranges.{op_within}

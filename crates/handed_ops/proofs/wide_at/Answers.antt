@@ -1,6 +1,5 @@
 -- Each number is at its place, and the hold is there where it is marked.
 -- Assumes nothing.
-use borrow.Author.Rules.{rules}
 use Rattle.handed_ops.specs.OpsLaws.{mark_read, op_read}
 use Rattle.handed_ops.proofs.wide_at.Goals as goal
 

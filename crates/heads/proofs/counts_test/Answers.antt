@@ -5,7 +5,6 @@ use native.Mathlib.Omega.{arith}
 use Rattle.theory.proofs.Ranges.{counts_within}
 use Rattle.fields.specs.FieldLaws.{field_passed, field_bad, field_ranged}
 use Rattle.fields.specs.RefusalLaws.{passed_as, refused_as}
-use borrow.Author.Rules.{rules}
 use Rattle.heads.proofs.counts_test.Goals as goal
 
 pub byte-boards-requires : goal.byte-boards-requires

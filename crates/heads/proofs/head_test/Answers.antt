@@ -10,7 +10,6 @@ use Rattle.fields.specs.RefusalLaws.{then_refusal, passed_as, refused_as}
 use Rattle.fields.specs.FieldLaws.{needed_no, needed_yes}
 use Rattle.heads.specs.Heads.{modes_test}
 use Rattle.heads.specs.HeadLaws.{head_tests, after_len, after_counts, after_modes, counts_fit}
-use borrow.Author.Rules.{rules}
 use Rattle.heads.proofs.head_test.Goals as goal
 
 pub returns-in-Refused : goal.returns-in-Refused

@@ -6,7 +6,6 @@ use Rattle.rules.specs.Judge.{len_wrong}
 use Rattle.theory.proofs.Ranges.{len_within}
 use Rattle.fields.specs.FieldLaws.{field_passed, field_bad, field_ranged}
 use Rattle.fields.specs.RefusalLaws.{passed_as, refused_as}
-use borrow.Author.Rules.{rules}
 use Rattle.heads.proofs.len_test.Goals as goal
 
 pub be16-requires : goal.be16-requires

@@ -4,7 +4,6 @@ use native.Mathlib.Omega.{arith}
 use Rattle.rules.specs.Judge.{head_of}
 use Rattle.table.specs.Tables.{padded}
 use Rattle.heads.specs.HeadLaws.{head_fits}
-use borrow.Author.Rules.{rules}
 use Rattle.heads.proofs.read_head.Goals as goal
 
 pub be16-len-requires : goal.be16-len-requires

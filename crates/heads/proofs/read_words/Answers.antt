@@ -1,9 +1,8 @@
 -- The words before m stand in front, and the rest is zero.
 -- Assumes nothing.
-use Prim.Native.Nat.{◌-◌, ◌≤◌}
 use mathlib.Core.Path.{◌≡◌, refl}
 use native.Mathlib.Omega.{arith}
-use lib.ListN.{length, length-set}
+use lib.ListN.{length-set}
 use Rattle.rules.specs.Bytes.{words}
 use Rattle.table.specs.Tables.{padded}
 use Rattle.heads.specs.WordLaws.{words_more}

@@ -1,12 +1,10 @@
 -- The words before m stand in front, and the rest is zero.
 -- Assumes nothing.
 use Prim.Native.Nat.{◌-◌, ◌≤◌}
-use mathlib.Core.Path.{◌≡◌, refl}
-use native.Mathlib.Omega.{arith}
-use lib.ListN.{length, length-set}
+use mathlib.Core.Path.{◌≡◌}
+use lib.ListN.{length}
 use Rattle.rules.specs.Bytes.{words}
 use Rattle.table.specs.Tables.{padded}
-use Rattle.heads.specs.WordLaws.{words_more}
 use Rattle.heads.proofs.read_words.Given as goal
 
 abbrev pub invariant-loop-m : goal.invariant-loop-m

@@ -1,14 +1,13 @@
 -- Which set is wrong first of all is which is first of those from word m on, until a wrong one or the end.
 -- Assumes nothing.
-use Prim.Native.Nat.{◌+◌, ◌-◌, ◌<◌, ◌≤◌}
+use Prim.Native.Nat.{◌+◌, ◌<◌, ◌≤◌}
 use mathlib.Core.Bool.{true, false}
 use mathlib.Core.Path.{◌≡◌, sym, ap, ◌∙◌}
 use native.Mathlib.Omega.{arith}
 use lib.ListN.{length, get_or}
-use borrow.Author.Tests.{not-true, not-false}
 use Rattle.rules.specs.Bytes.{words}
-use Rattle.rules.specs.Judge.{set_ok, sets_wrong}
-use Rattle.theory.proofs.Ranges.{sets_from, sets_start, set_wrong, set_fine, sets_end}
+use Rattle.rules.specs.Judge.{set_ok}
+use Rattle.theory.proofs.Ranges.{sets_start, set_wrong, set_fine, sets_end}
 use Rattle.theory.proofs.Judging.{length_words}
 use Rattle.heads.specs.WordLaws.{word_there}
 use Rattle.heads.proofs.sets_wrong.Goals as goal

@@ -1,8 +1,7 @@
 -- Those of the first j operations that may meet i are in the set.
 -- Assumes nothing.
-use Prim.Native.Nat.{◌+◌, ◌-◌, ◌≤◌}
+use Prim.Native.Nat.{◌+◌}
 use mathlib.Core.Path.{◌≡◌, ◌∙◌}
-use mathlib.Core.Logic.{⊎_elim}
 use native.Mathlib.Omega.{arith}
 use Rattle.theory.proofs.Says.{clash_bool}
 use Rattle.laters.specs.Laters.{LaterOf}

@@ -1,12 +1,7 @@
 -- Those of the first j operations that may meet i are in the set.
 -- Assumes nothing.
-use Prim.Native.Nat.{◌+◌, ◌-◌, ◌≤◌}
-use mathlib.Core.Path.{◌≡◌, ◌∙◌}
-use mathlib.Core.Logic.{⊎_elim}
-use native.Mathlib.Omega.{arith}
-use Rattle.theory.proofs.Says.{clash_bool}
+use Prim.Native.Nat.{◌-◌, ◌≤◌}
 use Rattle.laters.specs.Laters.{LaterOf}
-use Rattle.laters.specs.LaterLaws.{later_none, later_with, later_without}
 use Rattle.laters.proofs.later_of.Given as goal
 
 abbrev pub invariant-loop-j : goal.invariant-loop-j

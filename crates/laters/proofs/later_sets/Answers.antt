@@ -1,10 +1,8 @@
 -- The first i sets are there.
 -- Assumes nothing.
-use Prim.Native.Nat.{◌-◌, ◌≤◌}
 use mathlib.Core.Path.{◌≡◌, refl}
 use native.Mathlib.Omega.{arith}
-use lib.ListN.{length, length-set}
-use Rattle.laters.specs.Laters.{AllLater}
+use lib.ListN.{length-set}
 use Rattle.laters.specs.LaterLaws.{all_later_more}
 use Rattle.laters.proofs.later_sets.Goals as goal
 

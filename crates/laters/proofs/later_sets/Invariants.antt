@@ -1,11 +1,9 @@
 -- The first i sets are there.
 -- Assumes nothing.
 use Prim.Native.Nat.{◌-◌, ◌≤◌}
-use mathlib.Core.Path.{◌≡◌, refl}
-use native.Mathlib.Omega.{arith}
-use lib.ListN.{length, length-set}
+use mathlib.Core.Path.{◌≡◌}
+use lib.ListN.{length}
 use Rattle.laters.specs.Laters.{AllLater}
-use Rattle.laters.specs.LaterLaws.{all_later_more}
 use Rattle.laters.proofs.later_sets.Given as goal
 
 abbrev pub invariant-loop-i : goal.invariant-loop-i

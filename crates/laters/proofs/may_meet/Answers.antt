@@ -4,8 +4,6 @@ use Prim.Native.Nat.{◌+◌}
 use mathlib.Core.Path.{◌≡◌, sym, ◌∙◌}
 use mathlib.Core.Bool.{true, false, false≢true}
 use native.Mathlib.Omega.{arith}
-use borrow.Author.Rules.{rules}
-use borrow.Author.Tests.{not-true, not-false}
 use Rattle.rules.specs.Sets.{Share, shares}
 use Rattle.theory.proofs.Says.{clash_bool, says_ltb}
 use Rattle.theory.proofs.Sets.{says_shares}

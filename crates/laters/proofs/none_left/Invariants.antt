@@ -1,11 +1,8 @@
 -- The first i sets are empty.
 -- Assumes nothing.
 use Prim.Native.Nat.{ℕ, ◌-◌, ◌<◌, ◌≤◌}
-use mathlib.Core.Path.{◌≡◌, refl}
-use mathlib.Core.Bool.{false≢true}
-use native.Mathlib.Omega.{arith}
+use mathlib.Core.Path.{◌≡◌}
 use lib.ListN.{get_or}
-use Rattle.theory.proofs.Order.{below_more}
 use Rattle.laters.proofs.none_left.Given as goal
 
 abbrev pub invariant-loop-i : goal.invariant-loop-i

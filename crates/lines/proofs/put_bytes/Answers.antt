@@ -1,11 +1,10 @@
 -- The first i bytes are stored, and nothing else has changed.
 -- Assumes nothing.
-use Prim.Native.Nat.{◌-◌, ◌≤◌}
-use mathlib.Core.Path.{◌≡◌, refl, ◌∙◌}
+use Prim.Native.Nat.{◌≤◌}
+use mathlib.Core.Path.{refl, ◌∙◌}
 use native.Mathlib.Omega.{arith}
-use lib.ListN.{length, take, length-set}
+use lib.ListN.{length, length-set}
 use lib.Seq.{take_all}
-use Rattle.puts.specs.Puts.{stored}
 use Rattle.lines.specs.LineLaws.{copy_none, copy_turn}
 use Rattle.lines.proofs.put_bytes.Goals as goal
 

@@ -5,7 +5,6 @@ use native.Mathlib.Omega.{arith}
 use lib.ListN.{length, length-append}
 use Rattle.rules.specs.Text.{decimal}
 use Rattle.lines.specs.LineLaws.{puts_then}
-use borrow.Author.Rules.{rules}
 use Rattle.lines.proofs.put_part.Goals as goal
 
 pub put_bytes-end-requires : goal.put_bytes-end-requires

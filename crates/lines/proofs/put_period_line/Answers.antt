@@ -5,7 +5,6 @@ use native.Mathlib.Omega.{arith}
 use lib.ListN.{length}
 use Rattle.theory.proofs.Text.{period_length, period_short}
 use Rattle.lines.specs.LineLaws.{period_put}
-use borrow.Author.Rules.{rules}
 use Rattle.lines.proofs.put_period_line.Goals as goal
 
 pub put_part-end-requires : goal.put_part-end-requires

@@ -5,7 +5,6 @@ use native.Mathlib.Omega.{arith}
 use lib.ListN.{length, length-append}
 use Rattle.theory.proofs.Text.{row_line_lem, row_short}
 use Rattle.rows.specs.Rows.{row_of}
-use borrow.Author.Rules.{rules}
 use Rattle.lines.proofs.put_row_line.Goals as goal
 
 pub put_line-requires : goal.put_line-requires

@@ -6,7 +6,6 @@ use Rattle.theory.proofs.Judging.{judge_accepted}
 use Rattle.fields.specs.RefusalLaws.{onwards_refusal}
 use Rattle.table.specs.JudgedLaws.{judged_accepted, judged_refused, took_good}
 use Rattle.asks.specs.AskLaws.{accepted_on}
-use borrow.Author.Rules.{rules}
 use Rattle.margins.proofs.margin.Goals as goal
 
 pub margin_of-requires : goal.margin_of-requires

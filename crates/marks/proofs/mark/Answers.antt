@@ -1,10 +1,9 @@
 -- The numbers below x are marked.
 -- Assumes nothing.
-use Prim.Native.Nat.{◌-◌, ◌<◌, ◌≤◌, max}
+use Prim.Native.Nat.{max}
 use mathlib.Core.Path.{◌≡◌}
 use native.Mathlib.Omega.{arith}
-use lib.ListN.{length, length-set}
-use Rattle.marks.specs.Marks.{Adds}
+use lib.ListN.{length-set}
 use Rattle.marks.specs.MarkLaws.{adds_none, adds_as, adds_range}
 use Rattle.marks.proofs.mark.Goals as goal
 

@@ -2,10 +2,8 @@
 -- Assumes nothing.
 use Prim.Native.Nat.{◌-◌, ◌<◌, ◌≤◌, max}
 use mathlib.Core.Path.{◌≡◌}
-use native.Mathlib.Omega.{arith}
-use lib.ListN.{length, length-set}
+use lib.ListN.{length}
 use Rattle.marks.specs.Marks.{Adds}
-use Rattle.marks.specs.MarkLaws.{adds_none, adds_as, adds_range}
 use Rattle.marks.proofs.mark.Given as goal
 
 abbrev pub invariant-loop-x : goal.invariant-loop-x

@@ -4,8 +4,6 @@ use Prim.Native.Nat.{suc, ◌+◌, ◌*◌, ◌≤◌}
 use mathlib.Core.Path.{◌≡◌, refl, sym, ◌∙◌}
 use mathlib.Core.Bool.{true, false, false≢true}
 use native.Mathlib.Omega.{arith}
-use borrow.Author.Rules.{rules}
-use borrow.Author.Tests.{not-true, not-false}
 use Rattle.rules.specs.Sets.{Share, shares}
 use Rattle.rules.specs.Table.{held_to}
 use Rattle.theory.proofs.Says.{clash_bool}

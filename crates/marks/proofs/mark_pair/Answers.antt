@@ -2,7 +2,6 @@
 -- Assumes nothing.
 use Prim.Native.Nat.{◌+◌, ◌≤◌}
 use native.Mathlib.Omega.{arith}
-use borrow.Author.Rules.{rules}
 use Rattle.rules.specs.Table.{held_to}
 use Rattle.columns.specs.Columns.{op_by}
 use Rattle.raises.specs.Raises.{Raised, InTime}

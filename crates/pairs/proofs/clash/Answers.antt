@@ -2,7 +2,6 @@
 -- its boards.
 -- Assumes nothing.
 use mathlib.Core.Path.{◌≡◌}
-use borrow.Author.Rules.{rules}
 use Rattle.rules.specs.Table.{held_to}
 use Rattle.rules.specs.Judge.{clashes}
 use Rattle.table.specs.Tables.{op_of}

@@ -3,7 +3,6 @@
 use Prim.Native.Nat.{ℕ}
 use mathlib.Core.Path.{◌≡◌, sym}
 use mathlib.Core.Bool.{Bool}
-use borrow.Author.Rules.{rules}
 use Rattle.rules.specs.Sets.{shares, overlaps}
 use Rattle.rules.specs.Table.{Op, end_of}
 use Rattle.rules.specs.Judge.{races}

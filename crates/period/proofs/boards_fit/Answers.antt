@@ -4,7 +4,6 @@ use native.Mathlib.Omega.{arith}
 use borrow.Author.Tests.{eqb-true, eq-eqb}
 use Rattle.table.specs.Tables.{table_of}
 use Rattle.period.specs.PeriodLaws.{columns_asked, columns_found, boards_at, reach_found, boards_asked_lem, boards_found}
-use borrow.Author.Rules.{rules}
 use Rattle.period.proofs.boards_fit.Goals as goal
 
 pub columns-cols-requires : goal.columns-cols-requires

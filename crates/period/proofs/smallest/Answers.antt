@@ -4,7 +4,6 @@ use native.Mathlib.Omega.{arith}
 use Rattle.table.specs.Tables.{table_of}
 use Rattle.values.specs.Bounds.{IsBound}
 use Rattle.period.specs.PeriodLaws.{columns_asked, columns_found, first_is_period, reach_found, values_asked_lem, boards_asked_lem, values_found, boards_found}
-use borrow.Author.Rules.{rules}
 use Rattle.period.proofs.smallest.Goals as goal
 
 pub columns-cols-requires : goal.columns-cols-requires

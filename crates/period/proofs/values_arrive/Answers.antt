@@ -4,7 +4,6 @@ use Rattle.theory.proofs.Says.{says_leb}
 use Rattle.table.specs.Tables.{table_of}
 use Rattle.values.specs.Bounds.{IsBound}
 use Rattle.period.specs.PeriodLaws.{columns_asked, columns_found, values_said, reach_found, values_asked_lem, values_found}
-use borrow.Author.Rules.{rules}
 use Rattle.period.proofs.values_arrive.Goals as goal
 
 pub columns-cols-requires : goal.columns-cols-requires

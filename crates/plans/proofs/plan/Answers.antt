@@ -4,7 +4,6 @@ use Rattle.rules.specs.Judge.{judge}
 use Rattle.theory.proofs.Judging.{judge_accepted}
 use Rattle.table.specs.JudgedLaws.{judged_accepted, judged_refused, took_good, took_table}
 use Rattle.plans.specs.Plans.{plan_refused, plan_accepted}
-use borrow.Author.Rules.{rules}
 use Rattle.plans.proofs.plan.Goals as goal
 
 pub plan_table-requires : goal.plan_table-requires

@@ -6,7 +6,6 @@ use native.Mathlib.Omega.{arith}
 use Rattle.table.specs.Tables.{table_of}
 use Rattle.table.specs.TableLaws.{good_few, good_count}
 use Rattle.plans.specs.Plans.{plans_short, plans_room}
-use borrow.Author.Rules.{rules}
 use Rattle.plans.proofs.plan_table.Goals as goal
 
 -- "A reply has 5 + 7·operations bytes."

@@ -2,7 +2,6 @@
 -- Assumes nothing.
 use mathlib.Core.Path.{sym, ◌∙◌}
 use Rattle.saying.specs.SaidLaws.{asked_printed, unasked_printed}
-use borrow.Author.Rules.{rules}
 use Rattle.printing.proofs.emit.Goals as goal
 
 pub emit_said-requires : goal.emit_said-requires

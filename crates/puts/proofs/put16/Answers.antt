@@ -4,7 +4,6 @@ use native.Mathlib.Omega.{arith}
 use native.Mathlib.Numerals.{towards_suc}
 use lib.ListN.{length-set}
 use Rattle.puts.specs.Puts.{stored}
-use borrow.Author.Rules.{rules}
 use Rattle.puts.proofs.put16.Goals as goal
 
 pub bounds-out-at-2 : goal.bounds-out-at-2

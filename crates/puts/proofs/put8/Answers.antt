@@ -2,7 +2,6 @@
 -- Assumes nothing.
 use mathlib.Core.Path.{refl}
 use Rattle.puts.specs.Puts.{stored}
-use borrow.Author.Rules.{rules}
 use Rattle.puts.proofs.put8.Goals as goal
 
 pub returns : goal.returns

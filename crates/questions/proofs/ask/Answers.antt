@@ -10,7 +10,6 @@ use Rattle.fields.specs.RefusalLaws.{onwards_refusal}
 use Rattle.table.specs.Tables.{JudgedAs}
 use Rattle.table.specs.JudgedLaws.{judged_accepted, judged_refused, took_good}
 use Rattle.asks.specs.AskLaws.{accepted_on}
-use borrow.Author.Rules.{rules}
 use Rattle.questions.proofs.ask.Goals as goal
 
 pub ask_table-requires : goal.ask_table-requires

@@ -4,7 +4,6 @@ use native.Mathlib.Omega.{arith}
 use Rattle.table.specs.Tables.{table_of}
 use Rattle.asks.specs.AskLaws.{range_in, range_out}
 use Rattle.questions.specs.QuestionLaws.{asked_denied, asked_granted}
-use borrow.Author.Rules.{rules}
 use Rattle.questions.proofs.ask_table.Goals as goal
 
 pub returns-then-not-in_range : goal.returns-then-not-in_range

@@ -6,7 +6,6 @@ use Rattle.theory.proofs.Judging.{judge_accepted}
 use Rattle.table.specs.JudgedLaws.{judged_accepted, judged_refused, took_good, took_table}
 use Rattle.theory.proofs.Asking.{accepted_answers}
 use Rattle.asks.specs.AskLaws.{refused_answers}
-use borrow.Author.Rules.{rules}
 use Rattle.questions.proofs.gap_of.Goals as goal
 
 pub smallest-requires : goal.smallest-requires

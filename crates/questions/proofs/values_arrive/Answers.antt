@@ -3,7 +3,6 @@
 use native.Mathlib.Omega.{arith}
 use Rattle.rules.specs.Answers.{Arrive}
 use Rattle.questions.specs.QuestionLaws.{asked_accepted, yes_no_refused, yes_no_accepted}
-use borrow.Author.Rules.{rules}
 use Rattle.questions.proofs.values_arrive.Goals as goal
 
 pub overflow_cast-q : goal.overflow_cast-q

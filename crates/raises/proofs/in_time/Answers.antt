@@ -3,7 +3,6 @@
 use Prim.Native.Nat.{suc, ◌+◌, ◌*◌, ◌<◌}
 use native.Mathlib.Numerals.{add-one}
 use native.Mathlib.Omega.{arith}
-use borrow.Author.Rules.{rules}
 use Rattle.raises.specs.Raises.{InTime}
 use Rattle.raises.specs.RaiseLaws.{raised_not, in_time_on, cycles_fit, quotient_asked}
 use Rattle.raises.proofs.in_time.Goals as goal

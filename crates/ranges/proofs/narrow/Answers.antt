@@ -2,7 +2,6 @@
 -- Assumes nothing.
 use Prim.Native.Nat.{◌^◌, ◌<◌}
 use native.Mathlib.Omega.{arith}
-use borrow.Author.Rules.{rules}
 use Rattle.ranges.specs.Ranges.{counted, wide_of}
 use Rattle.ranges.specs.RangeLaws.{OpSmall, op_small}
 use Rattle.ranges.proofs.narrow.Goals as goal

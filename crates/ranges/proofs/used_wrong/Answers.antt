@@ -5,8 +5,6 @@ use mathlib.Core.Path.{◌≡◌, sym, ◌∙◌}
 use mathlib.Core.Bool.{true, false}
 use native.Mathlib.Omega.{arith}
 use lib.Dec.{ltb}
-use borrow.Author.Rules.{rules}
-use borrow.Author.Tests.{not-true, not-false}
 use Rattle.rules.specs.Judge.{set_ok}
 use Rattle.ranges.specs.Ranges.{sets_of}
 use Rattle.ranges.proofs.used_wrong.Goals as goal

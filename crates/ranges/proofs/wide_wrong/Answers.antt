@@ -3,7 +3,6 @@
 use Prim.Native.Nat.{ℕ}
 use mathlib.Core.Path.{◌≡◌, refl, sym, ap, ◌∙◌}
 use native.Mathlib.Omega.{arith}
-use borrow.Author.Rules.{rules}
 use Rattle.rules.specs.Table.{Op}
 use Rattle.ranges.specs.Ranges.{wide_of, counted, dates_of, sets_of}
 use Rattle.ranges.specs.RangeLaws.{op_dates, op_sets}

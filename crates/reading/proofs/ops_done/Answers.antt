@@ -1,7 +1,6 @@
 -- At the end of the input they end; not where the first is due; else at a field 05.
 -- Assumes nothing.
 use native.Mathlib.Omega.{arith}
-use borrow.Author.Rules.{rules}
 use borrow.Author.Tests.{le-leb, lt-leb, le-ltb, lt-ltb}
 use lib.ListN.{length}
 use Rattle.reading.proofs.ops_done.Goals as goal

@@ -1,6 +1,5 @@
 -- The fields are judged, then the decider's, and what they make is judged whole.
 -- Assumes nothing.
-use borrow.Author.Rules.{rules}
 use Rattle.reading.specs.FieldsLaws.{fields_tidy, fields_behind, whole_ready, fields_whole}
 use Rattle.reading.proofs.read.Goals as goal
 

@@ -4,7 +4,6 @@ use mathlib.Core.Path.{sym}
 use Rattle.theory.proofs.Verdicts.{then_accepts}
 use Rattle.reading.specs.Reading.{ops_verdict, fields_verdict}
 use Rattle.fields.specs.RefusalLaws.{then_refusal, passed_as, refused_as}
-use borrow.Author.Rules.{rules}
 use Rattle.reading.proofs.read_fields.Goals as goal
 
 pub returns-in-Refused : goal.returns-in-Refused

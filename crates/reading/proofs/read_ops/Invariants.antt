@@ -1,17 +1,10 @@
 -- The operations so far are those that come before the rest, and the table holds them.
 -- Assumes nothing.
 use Prim.Native.Nat.{◌-◌}
-use mathlib.Core.Path.{◌≡◌, sym, ap, ◌∙◌}
-use mathlib.Core.Bool.{false}
-use native.Mathlib.Omega.{arith}
+use mathlib.Core.Path.{◌≡◌}
 use lib.ListN.{length}
-use borrow.Author.Rules.{rules}
-use borrow.Author.Tests.{not-true, not-false}
-use Rattle.rules.specs.Bytes.{op_size}
-use Rattle.rules.specs.Judge.{head_of, ops_place, ops_done, size_at}
-use Rattle.reading_ops.specs.ReadingOps.{next_of}
-use Rattle.heads.specs.HeadLaws.{head_fits}
-use Rattle.reading.specs.ReadingLaws.{SoFar, More, first_place, so_none, so_fits, done_is, done_inside, so_bad, so_more, so_end}
+use Rattle.rules.specs.Judge.{head_of, ops_place}
+use Rattle.reading.specs.ReadingLaws.{SoFar}
 use Rattle.reading.proofs.read_ops.Given as goal
 
 abbrev pub invariant-loop-k : goal.invariant-loop-k

@@ -5,7 +5,6 @@ use mathlib.Core.Path.{ap}
 use native.Mathlib.Omega.{arith}
 use lib.Dec.{eqb}
 use lib.ListN.{length}
-use borrow.Author.Rules.{rules}
 use Rattle.reading_ops.specs.ReadingOpLaws.{cut_plain}
 use Rattle.reading_ops.proofs.held_at.Goals as goal
 

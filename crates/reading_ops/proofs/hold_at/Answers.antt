@@ -1,6 +1,5 @@
 -- The number behind the duration, where there is one.
 -- Assumes nothing.
-use borrow.Author.Rules.{rules}
 use Rattle.reading_ops.proofs.hold_at.Goals as goal
 
 pub returns-then-held : goal.returns-then-held

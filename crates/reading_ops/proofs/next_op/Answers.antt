@@ -2,7 +2,6 @@
 -- Assumes nothing.
 use mathlib.Core.Path.{◌≡◌, sym, ap, ◌∙◌}
 use native.Mathlib.Omega.{arith}
-use borrow.Author.Rules.{rules}
 use Rattle.rules.specs.Verdicts.{accepted}
 use Rattle.rules.specs.Bytes.{op_size}
 use Rattle.rules.specs.Judge.{size_at}

@@ -4,7 +4,6 @@ use Prim.Native.Nat.{ℕ, ◌+◌, ◌≤◌}
 use mathlib.Core.Path.{refl, ap}
 use native.Mathlib.Omega.{arith}
 use lib.ListN.{length}
-use borrow.Author.Rules.{rules}
 use Rattle.theory.proofs.Judging.{form_least}
 use Rattle.reading_ops.specs.ReadingOpLaws.{sets_last, op_read}
 use Rattle.reading_ops.proofs.read_op.Goals as goal

@@ -11,7 +11,6 @@ use Rattle.rules.specs.Bytes.{reply_bytes}
 use Rattle.table.specs.Tables.{table_of}
 use Rattle.table.specs.TableLaws.{good_count}
 use Rattle.replies.specs.ReplyLaws.{reply_front}
-use borrow.Author.Rules.{rules}
 use Rattle.replies.proofs.put_reply.Goals as goal
 
 pub returns : goal.returns

@@ -2,7 +2,6 @@
 -- Assumes nothing.
 use mathlib.Core.Path.{refl}
 use Rattle.puts.specs.PutLaws.{stored_then}
-use borrow.Author.Rules.{rules}
 use Rattle.replies.proofs.put_row.Goals as goal
 
 pub returns : goal.returns

@@ -1,12 +1,12 @@
 -- The rows of the first i operations are written, and nothing else has changed.
 -- Assumes nothing.
-use Prim.Native.Nat.{◌+◌, ◌*◌, ◌-◌, ◌<◌, ◌≤◌}
+use Prim.Native.Nat.{◌+◌, ◌*◌, ◌<◌, ◌≤◌}
 use mathlib.Core.Path.{◌≡◌, refl, ap, ◌∙◌}
 use native.Mathlib.Omega.{arith}
-use lib.ListN.{length, take}
+use lib.ListN.{length}
 use Rattle.rules.specs.Table.{nops}
-use Rattle.rules.specs.Rows.{Row, reply_of}
-use Rattle.rules.specs.Bytes.{joined, row_bytes}
+use Rattle.rules.specs.Rows.{Row}
+use Rattle.rules.specs.Bytes.{row_bytes}
 use Rattle.puts.specs.Puts.{stored}
 use Rattle.puts.specs.PutLaws.{stored_length}
 use Rattle.table.specs.Tables.{table_of}

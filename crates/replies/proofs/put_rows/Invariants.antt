@@ -1,17 +1,12 @@
 -- The rows of the first i operations are written, and nothing else has changed.
 -- Assumes nothing.
-use Prim.Native.Nat.{◌+◌, ◌*◌, ◌-◌, ◌<◌, ◌≤◌}
-use mathlib.Core.Path.{◌≡◌, refl, ap, ◌∙◌}
-use native.Mathlib.Omega.{arith}
+use Prim.Native.Nat.{◌-◌, ◌≤◌}
+use mathlib.Core.Path.{◌≡◌}
 use lib.ListN.{length, take}
-use Rattle.rules.specs.Table.{nops}
-use Rattle.rules.specs.Rows.{Row, reply_of}
+use Rattle.rules.specs.Rows.{reply_of}
 use Rattle.rules.specs.Bytes.{joined, row_bytes}
 use Rattle.puts.specs.Puts.{stored}
-use Rattle.puts.specs.PutLaws.{stored_length}
 use Rattle.table.specs.Tables.{table_of}
-use Rattle.table.specs.TableLaws.{good_few, good_count}
-use Rattle.replies.specs.ReplyLaws.{rows_none, rows_turn, rows_end}
 use Rattle.replies.proofs.put_rows.Given as goal
 
 abbrev pub invariant-loop-i : goal.invariant-loop-i

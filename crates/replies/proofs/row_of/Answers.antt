@@ -5,7 +5,6 @@ use mathlib.Core.Path.{sym, ap, ◌∙◌}
 use Rattle.rules.specs.Table as rules
 use Rattle.rules.specs.Rows.{ticks, fold_at}
 use Rattle.table.specs.TableLaws.{op_at_lem, good_few}
-use borrow.Author.Rules.{rules}
 use Rattle.replies.proofs.row_of.Goals as goal
 
 pub offset_bounds-t-i : goal.offset_bounds-t-i

@@ -5,7 +5,6 @@ use mathlib.Core.Path.{◌≡◌, ap}
 use native.Mathlib.Nat.{div-add-mod'}
 use native.Mathlib.Omega.{arith}
 use Rattle.rules.specs.Rows.{ticks, cycles}
-use borrow.Author.Rules.{rules}
 use Rattle.rows.proofs.fold.Goals as goal
 
 pub returns : goal.returns

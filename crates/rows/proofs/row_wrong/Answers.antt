@@ -3,7 +3,6 @@
 use Prim.Native.Nat.{◌+◌, ◌*◌, ◌<◌, ◌≤◌}
 use mathlib.Core.Path.{sym, ap}
 use native.Mathlib.Omega.{arith}
-use borrow.Author.Rules.{rules}
 use Rattle.rules.specs.Rows.{Ticks}
 use Rattle.theory.proofs.Ranges.{row_start, row_index, row_fine}
 use Rattle.rows.proofs.row_wrong.Goals as goal

@@ -2,7 +2,6 @@
 -- Assumes nothing.
 use Rattle.questions.specs.Questions.{truth_of, found_of}
 use Rattle.margins.specs.Margins.{measured_of}
-use borrow.Author.Rules.{rules}
 use Rattle.saying.specs.SaidLaws.{said_fold, said_boards, said_values, said_margin, said_unfold, said_gap, said_nothing}
 use Rattle.saying.proofs.say.Goals as goal
 

@@ -1,7 +1,6 @@
 -- The literal is the list.
 -- Assumes nothing.
 use Rattle.rules.specs.Words.{askable}
-use borrow.Author.Rules.{rules}
 use Rattle.says.proofs.askable_text.Goals as goal
 
 pub returns : goal.returns

@@ -1,7 +1,6 @@
 -- The bytes are written into zeros, which are as many as the longest text has bytes.
 -- Assumes nothing.
 use Rattle.text.specs.TextLaws.{text_made}
-use borrow.Author.Rules.{rules}
 use Rattle.says.proofs.bytes_text.Goals as goal
 
 pub returns : goal.returns

@@ -4,7 +4,6 @@ use native.Mathlib.Omega.{arith}
 use Rattle.rules.specs.Text.{gap_line}
 use Rattle.says.specs.SayLaws.{gap_short, gap_length, gap_put}
 use Rattle.text.specs.TextLaws.{text_made}
-use borrow.Author.Rules.{rules}
 use Rattle.says.proofs.gap_line.Goals as goal
 
 pub put_part-end-requires : goal.put_part-end-requires

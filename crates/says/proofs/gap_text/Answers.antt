@@ -5,7 +5,6 @@ use Rattle.rules.specs.Text.{gap_line}
 use Rattle.questions.specs.Questions.{found_of}
 use Rattle.text.specs.Texts.{text_in}
 use Rattle.text.specs.TextLaws.{told_accepted, told_refusal}
-use borrow.Author.Rules.{rules}
 use Rattle.says.proofs.gap_text.Goals as goal
 
 pub returns-in-Ticks : goal.returns-in-Ticks

@@ -10,7 +10,6 @@ use mir.Syntax.{w32}
 use Rattle.rules.specs.Text.{margin_word, signed, margin_line}
 use Rattle.says.specs.SayLaws.{signed_short, margin_length, margin_put}
 use Rattle.text.specs.TextLaws.{text_made}
-use borrow.Author.Rules.{rules}
 use Rattle.says.proofs.margin_text.Goals as goal
 
 pub put_bytes-len-requires : goal.put_bytes-len-requires

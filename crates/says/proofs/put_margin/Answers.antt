@@ -11,7 +11,6 @@ use mir.Facts.{to_z-of_z}
 use mir.Syntax.{w32}
 use Rattle.rules.specs.Text.{decimal}
 use Rattle.says.specs.SayLaws.{signed_below, signed_above, unsigned_short}
-use borrow.Author.Rules.{rules}
 use Rattle.says.proofs.put_margin.Goals as goal
 
 pub put_part-requires : goal.put_part-requires

@@ -5,7 +5,6 @@ use Rattle.rules.specs.Text.{yes_no_line}
 use Rattle.questions.specs.Questions.{truth_of}
 use Rattle.text.specs.Texts.{text_in}
 use Rattle.text.specs.TextLaws.{told_accepted, told_refusal}
-use borrow.Author.Rules.{rules}
 use Rattle.says.proofs.truth_text.Goals as goal
 
 pub returns-in-Is : goal.returns-in-Is

@@ -1,7 +1,6 @@
 -- The word for what is said.
 -- Assumes nothing.
 use Rattle.rules.specs.Text.{yes_no_line}
-use borrow.Author.Rules.{rules}
 use Rattle.says.proofs.yes_no_text.Goals as goal
 
 pub returns-then-said : goal.returns-then-said

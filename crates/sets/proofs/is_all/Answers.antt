@@ -2,7 +2,6 @@
 -- Assumes nothing.
 use native.Mathlib.Omega.{arith}
 use Rattle.sets.specs.Laws.{one_shl}
-use borrow.Author.Rules.{rules}
 use Rattle.sets.proofs.is_all.Goals as goal
 
 pub returns : goal.returns

@@ -3,7 +3,6 @@
 use borrow.Author.Tests.{lt-ltb, le-ltb}
 use native.Mathlib.Omega.{arith}
 use Rattle.rules.specs.Judge.{set_ok}
-use borrow.Author.Rules.{rules}
 use Rattle.sets.proofs.is_set_of.Goals as goal
 
 pub returns-then-s-eq0 : goal.returns-then-s-eq0

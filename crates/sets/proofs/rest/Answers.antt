@@ -1,7 +1,6 @@
 -- 1 shifted by m bits is the set of m alone.
 -- Assumes nothing.
 use mathlib.Core.Path.{ap, ◌∙◌}
-use borrow.Author.Rules.{rules}
 use Rattle.theory.specs.Tests.{without}
 use Rattle.sets.specs.Laws.{one_shl}
 use Rattle.sets.proofs.rest.Goals as goal

@@ -1,14 +1,10 @@
 -- `step` goes over the members of s from the lowest up: what follows those that it has passed, and what follows those that are left, is the
 -- whole turn.
 -- Assumes nothing.
-use Prim.Native.Nat.{◌^◌, ◌≤◌}
-use mathlib.Core.Path.{◌≡◌, sym, ◌∙◌}
-use native.Mathlib.Omega.{arith}
-use lib.Bits.{bit_or, or_zero_l, or_zero_r}
-use borrow.Author.Rules.{rules}
-use Rattle.theory.specs.Tests.{without, step}
-use Rattle.theory.proofs.Sets.{in_small}
-use Rattle.sets.specs.Members.{rest_less, walk_on, step_none}
+use Prim.Native.Nat.{◌≤◌}
+use mathlib.Core.Path.{◌≡◌}
+use lib.Bits.{bit_or}
+use Rattle.theory.specs.Tests.{step}
 use Rattle.sets.proofs.step.Given as goal
 
 abbrev pub invariant-loop-left : goal.invariant-loop-left

@@ -2,7 +2,6 @@
 -- Assumes nothing.
 use mathlib.Core.Path.{ap}
 use lib.Bits.{bit_or}
-use borrow.Author.Rules.{rules}
 use Rattle.sets.specs.Laws.{one_shl}
 use Rattle.sets.proofs.with.Goals as goal
 

@@ -1,13 +1,9 @@
 -- The lines of the first i rows are put, and nothing else has changed.
 -- Assumes nothing.
-use Prim.Native.Nat.{◌-◌, ◌^◌, ◌<◌, ◌≤◌}
-use mathlib.Core.Path.{◌≡◌, refl, ◌∙◌}
-use native.Mathlib.Omega.{arith}
+use Prim.Native.Nat.{◌-◌, ◌≤◌}
+use mathlib.Core.Path.{◌≡◌}
 use lib.ListN.{length}
-use Rattle.rows.specs.Rows.{ticks_of}
 use Rattle.start_lines.specs.StartLines.{LinesPut}
-use Rattle.start_lines.specs.StartLineLaws.{start_lines_none, lines_turn}
-use borrow.Author.Rules.{rules}
 use Rattle.start_lines.proofs.put_lines.Given as goal
 
 abbrev pub invariant-loop-i : goal.invariant-loop-i

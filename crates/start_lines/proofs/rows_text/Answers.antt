@@ -3,7 +3,6 @@
 use native.Mathlib.Omega.{arith}
 use Rattle.starts.specs.StartLaws.{heard_size}
 use Rattle.start_lines.specs.StartLineLaws.{rows_few, rows_told}
-use borrow.Author.Rules.{rules}
 use Rattle.start_lines.proofs.rows_text.Goals as goal
 
 pub overflow_sub-n : goal.overflow_sub-n

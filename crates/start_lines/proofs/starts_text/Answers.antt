@@ -7,7 +7,6 @@ use Rattle.fields.specs.RefusalLaws.{passed_as, refused_as, heard_refusal}
 use Rattle.starts.specs.Starts.{heard}
 use Rattle.text.specs.Texts.{text_in}
 use Rattle.text.specs.TextLaws.{told_refusal}
-use borrow.Author.Rules.{rules}
 use Rattle.start_lines.proofs.starts_text.Goals as goal
 
 pub rows_text-requires : goal.rows_text-requires

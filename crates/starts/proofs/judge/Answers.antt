@@ -9,7 +9,6 @@ use Rattle.rules.specs.Judge.{rows_from}
 use Rattle.fields.specs.RefusalLaws.{passed_as, refused_as}
 use Rattle.starts.specs.Starts.{heard}
 use Rattle.starts.specs.StartLaws.{period_bad, rows_missing, rows_there}
-use borrow.Author.Rules.{rules}
 use Rattle.starts.proofs.judge.Goals as goal
 
 pub returns-in-Refused : goal.returns-in-Refused

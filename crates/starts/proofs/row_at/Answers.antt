@@ -1,6 +1,5 @@
 -- The two numbers are read at their places.
 -- Assumes nothing.
-use borrow.Author.Rules.{rules}
 use Rattle.starts.proofs.row_at.Goals as goal
 
 pub returns : goal.returns

@@ -1,15 +1,11 @@
 -- What is heard of the rows from the place on is what is heard of all.
 -- Assumes nothing.
 use Prim.Native.Nat.{◌-◌}
-use mathlib.Core.Path.{◌≡◌, refl, sym, ◌∙◌}
-use native.Mathlib.Omega.{arith}
+use mathlib.Core.Path.{◌≡◌}
 use lib.ListN.{length}
 use Rattle.rules.specs.Judge.{rows_from}
-use Rattle.fields.specs.RefusalLaws.{passed_as, refused_as}
 use Rattle.rows.specs.Rows.{ticks_of}
 use Rattle.starts.specs.Starts.{heard}
-use Rattle.starts.specs.StartLaws.{rows_end, rows_bad, rows_more}
-use borrow.Author.Rules.{rules}
 use Rattle.starts.proofs.rows_test.Given as goal
 
 abbrev pub invariant-loop-at : goal.invariant-loop-at

@@ -3,7 +3,6 @@
 use mathlib.Core.Path.{sym}
 use Rattle.fields.specs.RefusalLaws.{passed_as, refused_as}
 use Rattle.starts.specs.StartLaws.{unfold_refused, unfold_accepted}
-use borrow.Author.Rules.{rules}
 use Rattle.starts.proofs.unfold.Goals as goal
 
 pub unfold_reply-requires : goal.unfold_reply-requires

@@ -2,7 +2,6 @@
 -- Assumes nothing.
 use native.Mathlib.Omega.{arith}
 use Rattle.starts.specs.StartLaws.{heard_size, unfolds_short, unfolds_room}
-use borrow.Author.Rules.{rules}
 use Rattle.starts.proofs.unfold_reply.Goals as goal
 
 pub overflow_sub-n : goal.overflow_sub-n

@@ -1,6 +1,6 @@
 -- All from q up to x are marked.
 -- Assumes nothing.
-use Prim.Native.Nat.{ℕ, ◌-◌, ◌<◌, ◌≤◌}
+use Prim.Native.Nat.{◌≤◌}
 use native.Mathlib.Omega.{arith}
 use Rattle.marks.specs.Marks.{Marked}
 use Rattle.theory.proofs.Order.{below_more}

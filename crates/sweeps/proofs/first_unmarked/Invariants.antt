@@ -1,9 +1,7 @@
 -- All from q up to x are marked.
 -- Assumes nothing.
 use Prim.Native.Nat.{ℕ, ◌-◌, ◌<◌, ◌≤◌}
-use native.Mathlib.Omega.{arith}
 use Rattle.marks.specs.Marks.{Marked}
-use Rattle.theory.proofs.Order.{below_more}
 use Rattle.sweeps.proofs.first_unmarked.Given as goal
 
 abbrev pub invariant-loop-x : goal.invariant-loop-x

@@ -1,10 +1,8 @@
 -- The operations below i are done.
 -- Assumes nothing.
-use Prim.Native.Nat.{◌-◌, ◌≤◌}
 use mathlib.Core.Path.{◌≡◌, ◌∙◌}
 use native.Mathlib.Omega.{arith}
-use lib.ListN.{length}
-use Rattle.sweeps.specs.SweepLaws.{Done, done_none, done_more}
+use Rattle.sweeps.specs.SweepLaws.{done_none, done_more}
 use Rattle.sweeps.proofs.mark_distance.Goals as goal
 
 pub loop-i-init : goal.loop-i-init

@@ -1,10 +1,9 @@
 -- The operations below i are done.
 -- Assumes nothing.
 use Prim.Native.Nat.{◌-◌, ◌≤◌}
-use mathlib.Core.Path.{◌≡◌, ◌∙◌}
-use native.Mathlib.Omega.{arith}
+use mathlib.Core.Path.{◌≡◌}
 use lib.ListN.{length}
-use Rattle.sweeps.specs.SweepLaws.{Done, done_none, done_more}
+use Rattle.sweeps.specs.SweepLaws.{Done}
 use Rattle.sweeps.proofs.mark_distance.Given as goal
 
 abbrev pub invariant-loop-i : goal.invariant-loop-i

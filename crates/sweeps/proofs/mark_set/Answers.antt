@@ -2,7 +2,6 @@
 -- Assumes nothing.
 use mathlib.Core.Path.{◌≡◌}
 use native.Mathlib.Omega.{arith}
-use borrow.Author.Rules.{rules}
 use Rattle.sweeps.specs.Sweeps.{modes_after}
 use Rattle.sweeps.specs.SweepLaws.{keeps_none, adds_empty}
 use Rattle.sweeps.proofs.mark_set.Goals as goal

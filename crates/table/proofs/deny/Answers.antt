@@ -1,6 +1,5 @@
 -- The refusal is the answer's, and the table is the empty one.
 -- Assumes nothing.
-use borrow.Author.Rules.{rules}
 use Rattle.table.specs.JudgedLaws.{denied}
 use Rattle.table.proofs.deny.Goals as goal
 

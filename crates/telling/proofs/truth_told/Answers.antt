@@ -4,7 +4,6 @@ use mathlib.Core.Path.{◌∙◌}
 use Rattle.rules.specs.Verdicts.{onwards}
 use Rattle.telling.specs.Telling.{yes_of}
 use Rattle.telling.specs.TellingLaws.{refusal_told, refusal_yes}
-use borrow.Author.Rules.{rules}
 use Rattle.telling.proofs.truth_told.Goals as goal
 
 pub returns-in-Is : goal.returns-in-Is

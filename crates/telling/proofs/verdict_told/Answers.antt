@@ -2,7 +2,6 @@
 -- Assumes nothing.
 use mathlib.Core.Path.{◌∙◌}
 use Rattle.telling.specs.TellingLaws.{refusal_told}
-use borrow.Author.Rules.{rules}
 use Rattle.telling.proofs.verdict_told.Goals as goal
 
 pub returns-in-Accepted : goal.returns-in-Accepted

@@ -1,7 +1,6 @@
 -- 1 where it is yes and 0 where it is no.
 -- Assumes nothing.
 use mathlib.Core.Path.{◌∙◌}
-use borrow.Author.Rules.{rules}
 use Rattle.telling.proofs.yes_told.Goals as goal
 
 pub returns-then-yes : goal.returns-then-yes

@@ -1,12 +1,12 @@
 -- The lines of the first i operations are put, and nothing else has changed.
 -- Assumes nothing.
-use Prim.Native.Nat.{◌+◌, ◌-◌, ◌*◌, ◌<◌, ◌≤◌}
+use Prim.Native.Nat.{◌<◌, ◌≤◌}
 use mathlib.Core.Path.{◌≡◌, refl, ap, ◌∙◌}
 use native.Mathlib.Omega.{arith}
-use lib.ListN.{length, take}
+use lib.ListN.{length}
 use Rattle.rules.specs.Table.{nops}
-use Rattle.rules.specs.Rows.{Row, reply_of}
-use Rattle.rules.specs.Text.{row_line, row_lines}
+use Rattle.rules.specs.Rows.{Row}
+use Rattle.rules.specs.Text.{row_line}
 use Rattle.table.specs.Tables.{table_of}
 use Rattle.table.specs.TableLaws.{good_count, good_few}
 use Rattle.replies.specs.Replies.{row_in}

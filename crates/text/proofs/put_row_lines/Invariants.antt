@@ -1,19 +1,12 @@
 -- The lines of the first i operations are put, and nothing else has changed.
 -- Assumes nothing.
-use Prim.Native.Nat.{◌+◌, ◌-◌, ◌*◌, ◌<◌, ◌≤◌}
-use mathlib.Core.Path.{◌≡◌, refl, ap, ◌∙◌}
-use native.Mathlib.Omega.{arith}
+use Prim.Native.Nat.{◌+◌, ◌-◌, ◌*◌, ◌≤◌}
+use mathlib.Core.Path.{◌≡◌}
 use lib.ListN.{length, take}
-use Rattle.rules.specs.Table.{nops}
-use Rattle.rules.specs.Rows.{Row, reply_of}
-use Rattle.rules.specs.Text.{row_line, row_lines}
+use Rattle.rules.specs.Rows.{reply_of}
+use Rattle.rules.specs.Text.{row_lines}
 use Rattle.table.specs.Tables.{table_of}
-use Rattle.table.specs.TableLaws.{good_count, good_few}
-use Rattle.replies.specs.Replies.{row_in}
-use Rattle.replies.specs.ReplyLaws.{rows_end}
-use Rattle.theory.proofs.Text.{row_short, row_small}
 use Rattle.lines.specs.Lines.{Puts}
-use Rattle.text.specs.TextLaws.{row-lines-none, lines_turn}
 use Rattle.text.proofs.put_row_lines.Given as goal
 
 abbrev pub invariant-loop-i : goal.invariant-loop-i

@@ -1,7 +1,6 @@
 -- Too short, or the text is stored from the front.
 -- Assumes nothing.
 use Rattle.text.specs.TextLaws.{text_short, text_room}
-use borrow.Author.Rules.{rules}
 use Rattle.text.proofs.put_text.Goals as goal
 
 pub returns-then-out-n : goal.returns-then-out-n

@@ -7,7 +7,6 @@ use Rattle.theory.proofs.Text.{period_short, reply_longest}
 use Rattle.table.specs.Tables.{table_of}
 use Rattle.table.specs.TableLaws.{good_few}
 use Rattle.text.specs.TextLaws.{reply_put, text_made}
-use borrow.Author.Rules.{rules}
 use Rattle.text.proofs.reply_text.Goals as goal
 
 pub put_period_line-end-requires : goal.put_period_line-end-requires

@@ -1,13 +1,12 @@
 -- The first n rows are there; once a row came again, it is its own next row.
 -- Assumes nothing.
-use Prim.Native.Nat.{suc, ◌-◌, ◌<◌, ◌≤◌}
+use Prim.Native.Nat.{◌<◌}
 use mathlib.Core.Path.{◌≡◌, refl, sym, ◌∙◌}
-use mathlib.Core.Bool.{true, false≢true}
+use mathlib.Core.Bool.{false≢true}
 use native.Mathlib.Omega.{arith}
 use native.Mathlib.Numerals.{add-one}
-use lib.ListN.{length, take, length-set}
+use lib.ListN.{length, length-set}
 use lib.Seq.{take_all, take-suc-set}
-use borrow.Author.Rules.{rules}
 use Rattle.turns.specs.Turns.{tab, next_row, row_after}
 use Rattle.turns.specs.TurnLaws.{tab_suc, row_next, rows_block, length_row, still_row}
 use Rattle.turns.proofs.block.Goals as goal

@@ -1,15 +1,10 @@
 -- The first n rows are there; once a row came again, it is its own next row.
 -- Assumes nothing.
-use Prim.Native.Nat.{suc, ◌-◌, ◌<◌, ◌≤◌}
-use mathlib.Core.Path.{◌≡◌, refl, sym, ◌∙◌}
-use mathlib.Core.Bool.{true, false≢true}
-use native.Mathlib.Omega.{arith}
-use native.Mathlib.Numerals.{add-one}
-use lib.ListN.{length, take, length-set}
-use lib.Seq.{take_all, take-suc-set}
-use borrow.Author.Rules.{rules}
+use Prim.Native.Nat.{suc, ◌-◌, ◌≤◌}
+use mathlib.Core.Path.{◌≡◌}
+use mathlib.Core.Bool.{true}
+use lib.ListN.{length, take}
 use Rattle.turns.specs.Turns.{tab, next_row, row_after}
-use Rattle.turns.specs.TurnLaws.{tab_suc, row_next, rows_block, length_row, still_row}
 use Rattle.turns.proofs.block.Given as goal
 
 abbrev pub invariant-loop-n : goal.invariant-loop-n

@@ -1,10 +1,10 @@
 -- The sets of the first m modes are there.
 -- Assumes nothing.
-use Prim.Native.Nat.{◌-◌, ◌<◌, ◌≤◌}
+use Prim.Native.Nat.{◌<◌}
 use mathlib.Core.Path.{◌≡◌, refl, sym, ◌∙◌}
 use native.Mathlib.Omega.{arith}
 use native.Mathlib.Numerals.{add-one}
-use lib.ListN.{length, take, get_or, length-set}
+use lib.ListN.{length, get_or, length-set}
 use lib.Seq.{take_all, take-suc-set}
 use Rattle.theory.specs.Tests.{step}
 use Rattle.turns.specs.Turns.{tab, next_row}

@@ -1,14 +1,10 @@
 -- The sets of the first m modes are there.
 -- Assumes nothing.
-use Prim.Native.Nat.{◌-◌, ◌<◌, ◌≤◌}
-use mathlib.Core.Path.{◌≡◌, refl, sym, ◌∙◌}
-use native.Mathlib.Omega.{arith}
-use native.Mathlib.Numerals.{add-one}
-use lib.ListN.{length, take, get_or, length-set}
-use lib.Seq.{take_all, take-suc-set}
+use Prim.Native.Nat.{◌-◌, ◌≤◌}
+use mathlib.Core.Path.{◌≡◌}
+use lib.ListN.{length, take, get_or}
 use Rattle.theory.specs.Tests.{step}
-use Rattle.turns.specs.Turns.{tab, next_row}
-use Rattle.turns.specs.TurnLaws.{tab_suc}
+use Rattle.turns.specs.Turns.{tab}
 use Rattle.turns.proofs.next_row.Given as goal
 
 abbrev pub invariant-loop-m : goal.invariant-loop-m

@@ -1,11 +1,11 @@
 -- The set grows by what follows, a mode at least in each turn of the loop, and there are 32. Where it has no more of them than before nothing was
 -- new, and it is all that a run can reach.
 -- Assumes nothing.
-use Prim.Native.Nat.{ℕ, ◌-◌, ◌<◌}
+use Prim.Native.Nat.{ℕ}
 use mathlib.Core.Path.{◌≡◌, sym, subst}
 use native.Mathlib.Omega.{arith}
 use lib.Bits.{bit_or, or_lt}
-use lib.Count.{ones, ones-le}
+use lib.Count.{ones-le}
 use borrow.Author.Rules.{rules}
 use Rattle.sets.specs.Members.{ones_or}
 use Rattle.turns.specs.TurnLaws.{Growing, growing_first, growing_more, growing_end}

@@ -1,7 +1,6 @@
 -- A row that is its own next row is given back as it is.
 -- Assumes nothing.
 use mathlib.Core.Path.{sym}
-use borrow.Author.Rules.{rules}
 use Rattle.turns.proofs.row_on.Goals as goal
 
 pub returns-then-still : goal.returns-then-still

@@ -1,12 +1,7 @@
 -- The first m sets are the same.
 -- Assumes nothing.
 use Prim.Native.Nat.{◌-◌, ◌≤◌}
-use mathlib.Core.Path.{◌≡◌, refl}
-use mathlib.Core.Bool.{false≢true}
-use native.Mathlib.Omega.{arith}
-use lib.ListN.{get_or}
 use Rattle.turns.specs.Turns.{SameRow}
-use Rattle.theory.proofs.Order.{below_more}
 use Rattle.turns.proofs.same_row.Given as goal
 
 abbrev pub invariant-loop-m : goal.invariant-loop-m

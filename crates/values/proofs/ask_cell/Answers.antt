@@ -1,14 +1,13 @@
 -- The bound is raised by what the writers that were visited write into the cell.
 -- Assumes nothing.
-use Prim.Native.Nat.{◌^◌, ◌<◌, ◌≤◌}
+use Prim.Native.Nat.{◌^◌}
 use mathlib.Core.Path.{◌≡◌}
 use native.Mathlib.Omega.{arith}
-use borrow.Author.Rules.{rules}
 use Rattle.theory.specs.Tests.{without}
 use Rattle.theory.proofs.Sets.{in_small}
 use Rattle.sets.specs.Members.{rest_less}
 use Rattle.raises.specs.Raises.{Raised}
-use Rattle.arrivals.specs.EachLaws.{Raising, every_none, every_more, every_all}
+use Rattle.arrivals.specs.EachLaws.{every_none, every_more, every_all}
 use Rattle.raises.specs.RaiseLaws.{raised_up, raised_to}
 use Rattle.values.specs.Bounds.{WriterFine}
 use Rattle.values.specs.BoundLaws.{no_writers, writer_late}

@@ -1,16 +1,15 @@
 -- The bound stands for the first n distances; the search ends where no distance that is left asks for more.
 -- Assumes nothing.
-use Prim.Native.Nat.{◌+◌, ◌-◌, ◌≤◌}
+use Prim.Native.Nat.{◌+◌}
 use mathlib.Core.Path.{◌≡◌}
 use native.Mathlib.Nat.{mul-le-mul_left}
 use native.Mathlib.Omega.{arith}
-use borrow.Author.Rules.{rules}
 use lib.ListN.{get_or}
 use Rattle.theory.specs.Tests.{without, step}
 use Rattle.arrivals.specs.Arrivals.{Every, ReaderFine}
 use Rattle.raises.specs.Raises.{Raised}
 use Rattle.raises.specs.RaiseLaws.{raised_up, raised_to, cycles_fit, in_time_late}
-use Rattle.values.specs.CarryLaws.{Carried, carried_none, carried_more, carried_far, carried_seen}
+use Rattle.values.specs.CarryLaws.{carried_none, carried_more, carried_far, carried_seen}
 use Rattle.values.proofs.ask_turns.Goals as goal
 
 pub loop-n-init : goal.loop-n-init

@@ -1,15 +1,10 @@
 -- The bound is raised by the first c cells; raised by all of them it is the bound of the values of a table that has these columns.
 -- Assumes nothing.
 use Prim.Native.Nat.{◌-◌, ◌≤◌}
-use mathlib.Core.Path.{◌≡◌, sym, ◌∙◌}
-use native.Mathlib.Omega.{arith}
 use lib.ListN.{get_or}
 use Rattle.arrivals.specs.Arrivals.{Each}
 use Rattle.raises.specs.Raises.{Raised}
-use Rattle.arrivals.specs.EachLaws.{each_none, each_more}
-use Rattle.raises.specs.RaiseLaws.{raised_up, raised_to}
 use Rattle.values.specs.Bounds.{CellFine}
-use Rattle.values.specs.BoundLaws.{cell_late, raised_bound}
 use Rattle.values.proofs.values_bound.Given as goal
 
 abbrev pub invariant-loop-c : goal.invariant-loop-c

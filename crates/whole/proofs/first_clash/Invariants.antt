@@ -1,14 +1,10 @@
 -- The loops pass only pairs that do not clash, so a pair at which they stop is the first that does.
 -- Assumes nothing.
 use Prim.Native.Nat.{◌-◌, ◌<◌}
-use mathlib.Core.Path.{◌≡◌, refl, sym, ◌∙◌}
-use native.Mathlib.Omega.{arith}
-use borrow.Author.Rules.{rules}
-use lib.ListN.{length, length-map}
-use Rattle.rules.specs.Verdicts.{CLASH}
+use mathlib.Core.Path.{◌≡◌}
 use Rattle.rules.specs.Judge.{clashes}
 use Rattle.fields.specs.declared.Verdict.TheVariants.{Accepted}
-use Rattle.whole.specs.PairLaws.{RowsClear, RowClear, rows_none, row_none, row_more, rows_more, pairs_clear, pairs_hit}
+use Rattle.whole.specs.PairLaws.{RowsClear, RowClear}
 use Rattle.whole.proofs.first_clash.Given as goal
 
 abbrev pub invariant-loop-j : goal.invariant-loop-j

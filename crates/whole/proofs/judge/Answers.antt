@@ -1,6 +1,5 @@
 -- A refusal is handed on; a table that the fields accept is judged whole.
 -- Assumes nothing.
-use borrow.Author.Rules.{rules}
 use Rattle.table.specs.JudgedLaws.{going_refused, going_accepted}
 use Rattle.whole.proofs.judge.Goals as goal
 

@@ -1,7 +1,7 @@
 -- The table is handed on where all tests pass; otherwise the refusal is the answer.
 -- Assumes nothing.
 use mathlib.Core.Path.{◌≡◌, sym, ap, ◌∙◌}
-use lib.ListN.{length, length-map}
+use lib.ListN.{length}
 use borrow.Author.Rules.{rules}
 use Rattle.fields.specs.Verdicts.{tested}
 use Rattle.table.specs.JudgedLaws.{granted}

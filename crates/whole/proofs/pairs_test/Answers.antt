@@ -1,7 +1,6 @@
 -- RACE is asked only where CLASH accepts; otherwise the clash is the answer.
 -- Assumes nothing.
 use mathlib.Core.Path.{sym, ap, ◌∙◌}
-use borrow.Author.Rules.{rules}
 use Rattle.theory.proofs.Verdicts.{then_accepts}
 use Rattle.fields.specs.Verdicts.{tested}
 use Rattle.fields.specs.RefusalLaws.{then_refusal}

@@ -1,7 +1,6 @@
 -- EARLY is asked only where the pairs accept; otherwise their refusal is the answer.
 -- Assumes nothing.
 use mathlib.Core.Path.{sym, ap, ◌∙◌}
-use borrow.Author.Rules.{rules}
 use Rattle.theory.proofs.Verdicts.{then_accepts}
 use Rattle.fields.specs.Verdicts.{tested}
 use Rattle.fields.specs.RefusalLaws.{then_refusal}

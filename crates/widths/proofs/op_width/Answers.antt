@@ -1,7 +1,6 @@
 -- Three bytes of the header more.
 -- Assumes nothing.
 use native.Mathlib.Omega.{arith}
-use borrow.Author.Rules.{rules}
 use Rattle.widths.proofs.op_width.Goals as goal
 
 pub overflow_add-result : goal.overflow_add-result

@@ -1,12 +1,9 @@
 -- So far the place is behind the first i operations.
 -- Assumes nothing.
-use Prim.Native.Nat.{◌+◌, ◌-◌, ◌≤◌}
 use mathlib.Core.Path.{◌≡◌}
 use native.Mathlib.Omega.{arith}
-use borrow.Author.Rules.{rules}
-use Rattle.rules.specs.Judge.{ops_place}
 use Rattle.theory.proofs.Judging.{size_none}
-use Rattle.widths.specs.WidthLaws.{size_to, size_next, size_few}
+use Rattle.widths.specs.WidthLaws.{size_next, size_few}
 use Rattle.widths.proofs.ops_end.Goals as goal
 
 pub loop-i-init : goal.loop-i-init

@@ -2,11 +2,8 @@
 -- Assumes nothing.
 use Prim.Native.Nat.{◌+◌, ◌-◌, ◌≤◌}
 use mathlib.Core.Path.{◌≡◌}
-use native.Mathlib.Omega.{arith}
-use borrow.Author.Rules.{rules}
 use Rattle.rules.specs.Judge.{ops_place}
-use Rattle.theory.proofs.Judging.{size_none}
-use Rattle.widths.specs.WidthLaws.{size_to, size_next, size_few}
+use Rattle.widths.specs.WidthLaws.{size_to}
 use Rattle.widths.proofs.ops_end.Given as goal
 
 abbrev pub invariant-loop-i : goal.invariant-loop-i

@@ -1,11 +1,7 @@
 -- The first i bytes are digits, so all are where the rest is.
 -- Assumes nothing.
-use Prim.Native.Nat.{◌-◌, ◌≤◌}
-use mathlib.Core.Path.{◌≡◌, sym, ◌∙◌}
+use mathlib.Core.Path.{sym, ◌∙◌}
 use native.Mathlib.Omega.{arith}
-use lib.ListN.{drop}
-use borrow.Author.Rules.{rules}
-use Rattle.rules.specs.Words.{is_number, digits_only}
 use Rattle.words.specs.WordLaws.{number_none, number_some, digits_end, digits_stop, digits_turn}
 use Rattle.words.proofs.is_number.Goals as goal
 

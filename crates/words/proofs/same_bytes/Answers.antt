@@ -1,10 +1,7 @@
 -- The first i bytes are the same, so the words are the same where the rest is.
 -- Assumes nothing.
-use Prim.Native.Nat.{◌-◌, ◌≤◌}
-use mathlib.Core.Path.{◌≡◌, refl, sym, ◌∙◌}
+use mathlib.Core.Path.{refl, sym, ◌∙◌}
 use native.Mathlib.Omega.{arith}
-use lib.ListN.{drop}
-use Rattle.rules.specs.Words.{same_bytes}
 use Rattle.words.specs.WordLaws.{same_long, same_end, same_stops, same_turn}
 use Rattle.words.proofs.same_bytes.Goals as goal
 

@@ -1,11 +1,9 @@
 -- The first i bytes are the same, so the words are the same where the rest is.
 -- Assumes nothing.
 use Prim.Native.Nat.{◌-◌, ◌≤◌}
-use mathlib.Core.Path.{◌≡◌, refl, sym, ◌∙◌}
-use native.Mathlib.Omega.{arith}
+use mathlib.Core.Path.{◌≡◌}
 use lib.ListN.{drop}
 use Rattle.rules.specs.Words.{same_bytes}
-use Rattle.words.specs.WordLaws.{same_long, same_end, same_stops, same_turn}
 use Rattle.words.proofs.same_bytes.Given as goal
 
 abbrev pub invariant-loop-i : goal.invariant-loop-i

@@ -2,7 +2,6 @@
 -- Assumes nothing.
 use mathlib.Core.Path.{◌≡◌, sym, ap, ◌∙◌}
 use mathlib.Core.Bool.{true}
-use borrow.Author.Rules.{rules}
 use Rattle.rules.specs.Words.{number, is_number}
 use Rattle.words.specs.Words.{capped_word}
 use Rattle.words.specs.WordLaws.{number_digits}

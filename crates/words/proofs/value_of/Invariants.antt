@@ -1,13 +1,11 @@
 -- The first i digits are read: the number goes on from v with the rest.
 -- Assumes nothing.
 use Prim.Native.Nat.{◌-◌, ◌≤◌}
-use mathlib.Core.Path.{◌≡◌, refl, ◌∙◌}
+use mathlib.Core.Path.{◌≡◌}
 use mathlib.Core.Bool.{true}
-use native.Mathlib.Omega.{arith}
 use lib.ListN.{drop}
 use Rattle.rules.specs.Words.{digits_only, value_from, value_of}
 use Rattle.words.specs.Words.{capped, largest}
-use Rattle.words.specs.WordLaws.{digits_both, value_end, value_turn}
 use Rattle.words.proofs.value_of.Given as goal
 
 abbrev pub invariant-loop-i : goal.invariant-loop-i

@@ -1,7 +1,6 @@
 -- Either the number is beyond 64 bits, or nothing wraps.
 -- Assumes nothing.
 use native.Mathlib.Omega.{arith}
-use borrow.Author.Rules.{rules}
 use Rattle.words.specs.WordLaws.{digit_bounds}
 use Rattle.words.proofs.with_digit.Goals as goal
 

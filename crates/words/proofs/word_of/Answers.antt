@@ -1,7 +1,6 @@
 -- A name's bytes are the name; other words are not named.
 -- Assumes nothing.
 use mathlib.Core.Path.{sym, ◌∙◌}
-use borrow.Author.Rules.{rules}
 use Rattle.words.specs.Words.{capped_word}
 use Rattle.words.specs.WordLaws.{word_row}
 use Rattle.words.proofs.word_of.Goals as goal

@@ -4,7 +4,7 @@ use Prim.Native.Nat.{ℕ, ◌≤◌}
 use mathlib.Core.Path.{◌≡◌, sym, ap, ◌∙◌}
 use mathlib.Core.List.{List}
 use native.Mathlib.Omega.{arith}
-use lib.ListN.{length, length-map, length-append, take}
+use lib.ListN.{length, length-append, take}
 use borrow.Author.Rules.{rules}
 use Rattle.rules.specs.Bytes.{joined, head_bytes, table_bytes}
 use Rattle.table.specs.Tables.{table_of}

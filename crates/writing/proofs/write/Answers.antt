@@ -1,6 +1,5 @@
 -- The numbers are judged first; what is accepted is written, and a refusal is the answer as it is.
 -- Assumes nothing.
-use borrow.Author.Rules.{rules}
 use Rattle.table.specs.JudgedLaws.{judged_accepted, judged_refused}
 use Rattle.writing.specs.WrittenLaws.{took_writable, took_written, refused_written}
 use Rattle.writing.proofs.write.Goals as goal

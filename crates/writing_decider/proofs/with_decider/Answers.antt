@@ -1,7 +1,6 @@
 -- Nothing more where nobody decides, and four bytes where somebody does.
 -- Assumes nothing.
 use native.Mathlib.Omega.{arith}
-use borrow.Author.Rules.{rules}
 use Rattle.writing_decider.proofs.with_decider.Goals as goal
 
 pub returns-in-Nobody : goal.returns-in-Nobody

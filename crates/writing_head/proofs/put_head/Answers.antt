@@ -2,7 +2,6 @@
 -- Assumes nothing.
 use mathlib.Core.Path.{refl}
 use Rattle.puts.specs.PutLaws.{stored_then}
-use borrow.Author.Rules.{rules}
 use Rattle.writing_head.proofs.put_head.Goals as goal
 
 pub returns : goal.returns

@@ -1,7 +1,7 @@
 -- The followers stand behind the first modes, and the field's length is that of both.
 -- Assumes nothing.
 use mathlib.Core.Path.{◌≡◌, refl}
-use lib.ListN.{length, length-map}
+use lib.ListN.{length}
 use Rattle.puts.specs.PutLaws.{stored_then}
 use Rattle.writing_head.specs.WritingHeadLaws.{modes_size}
 use borrow.Author.Rules.{rules}

@@ -1,13 +1,10 @@
 -- The bytes of the words so far are stored, one behind the other.
 -- Assumes nothing.
-use Prim.Native.Nat.{◌+◌, ◌-◌, ◌*◌, ◌≤◌}
-use mathlib.Core.Path.{◌≡◌, refl, ap, ◌∙◌}
-use native.Mathlib.Omega.{arith}
+use Prim.Native.Nat.{◌-◌, ◌≤◌}
+use mathlib.Core.Path.{◌≡◌}
 use lib.ListN.{length, take}
-use borrow.Author.Rules.{rules}
 use Rattle.rules.specs.Bytes.{be32, joined}
 use Rattle.puts.specs.Puts.{stored}
-use Rattle.puts.specs.PutLaws.{stored_length, stored_turn}
 use Rattle.writing_head.proofs.put_words.Given as goal
 
 abbrev pub invariant-loop-i : goal.invariant-loop-i

@@ -1,9 +1,9 @@
 -- The fields of the operations so far are stored, one behind the other, and the place is behind them.
 -- Assumes nothing.
-use Prim.Native.Nat.{◌+◌, ◌-◌, ◌≤◌}
+use Prim.Native.Nat.{◌+◌, ◌≤◌}
 use mathlib.Core.Path.{◌≡◌, refl, ap, ◌∙◌}
 use native.Mathlib.Omega.{arith}
-use lib.ListN.{length, get_or, take, length-map}
+use lib.ListN.{length, get_or}
 use borrow.Author.Rules.{rules}
 use Rattle.rules.specs.Bytes.{joined}
 use Rattle.rules.specs.Judge.{ops_place}

@@ -1,20 +1,13 @@
 -- The fields of the operations so far are stored, one behind the other, and the place is behind them.
 -- Assumes nothing.
 use Prim.Native.Nat.{◌+◌, ◌-◌, ◌≤◌}
-use mathlib.Core.Path.{◌≡◌, refl, ap, ◌∙◌}
-use native.Mathlib.Omega.{arith}
-use lib.ListN.{length, get_or, take, length-map}
-use borrow.Author.Rules.{rules}
+use mathlib.Core.Path.{◌≡◌}
+use lib.ListN.{length, take}
 use Rattle.rules.specs.Bytes.{joined}
 use Rattle.rules.specs.Judge.{ops_place}
-use Rattle.theory.specs.Holds.{op_width}
-use Rattle.theory.proofs.Judging.{size_none}
 use Rattle.puts.specs.Puts.{stored}
-use Rattle.puts.specs.PutLaws.{stored_length, stored_next}
-use Rattle.table.specs.Tables.{op_of, blank_op}
-use Rattle.widths.specs.WidthLaws.{size_to, size_next, size_rises}
+use Rattle.widths.specs.WidthLaws.{size_to}
 use Rattle.writing_ops.specs.WritingOps.{bytes_of_op}
-use Rattle.writing_ops.specs.WritingOpLaws.{size_bytes}
 use Rattle.writing_ops.proofs.put_ops.Given as goal
 
 abbrev pub invariant-loop-i : goal.invariant-loop-i
