@@ -65,6 +65,8 @@ fn put_op(cols: &mut [u32; 224], k: usize, o: Op)
 }
 
 // All of them.
+// Not put into its callers: its own copy is off the stack again before the engine runs.
+#[inline(never)]
 pub fn columns(ops: [Op; 32], count: usize) -> [u32; 224]
     requires { (length ops ≡ 32) × (count ≤ 32) × HeldShort ops count }
     ensures { (T : Table) → T.ops ≡ map op_of (take count ops) → Columns T result }

@@ -108,6 +108,8 @@ fn read_behind(s: &[u8], t: Table) -> Judged
 }
 
 // The same of a table whose fields before are judged: a refusal of them stays.
+// Not put into its caller, so that its tables are off the stack again before the whole is judged.
+#[inline(never)]
 pub fn read(s: &[u8], j: Judged) -> Judged
     requires { Tidy j }
     ensures { JudgedAs (going_on j (behind_of s.now)) result }

@@ -59,6 +59,8 @@ fn read_ops(s: &[u8]) -> Judged
 // ---- the whole input
 
 // The table that the bytes hold up to its operations, if every field passes.
+// Not put into its caller, so that its tables are off the stack again before the whole is judged.
+#[inline(never)]
 fn read_fields(s: &[u8]) -> Judged
     ensures { JudgedAs (fields_verdict s.now) result }
 {
@@ -70,6 +72,8 @@ fn read_fields(s: &[u8]) -> Judged
 }
 
 // The table that the bytes hold, or the first refusal of all.
+// Nor this, so that they are before the engine runs.
+#[inline(never)]
 pub fn read(s: &[u8]) -> Judged
     ensures { JudgedAs (judge s.now) result }
 {
