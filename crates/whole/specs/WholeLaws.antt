@@ -1,38 +1,17 @@
--- The judgement of the whole table, and of one whose fields are judged.
+-- The judgement of a table whose fields are judged.
 -- Assumes nothing.
 use Rattle.std.specs.Prelude.{ℕ, ◌<◌, ◌≤◌, ◌≡◌, length}
 use Rattle.std.proofs.Common.{sym, ◌∙◌}
 use Rattle.rules.specs.Table.{decides, Table, nops}
-use Rattle.rules.specs.Verdicts.{Verdict, accepted, CLASH, RACE, ◌then◌, onwards}
-use Rattle.rules.specs.Judge.{clashes, races, pairs_test, early_test, judge_whole}
-use Rattle.theory.proofs.Verdicts.{then_accepts, then_assoc}
-use Rattle.theory.proofs.Judging.{whole_row}
-use Rattle.fields.specs.Verdicts.{refusal_of}
-use Rattle.fields.specs.declared.Refusal.{Refusal}
+use Rattle.rules.specs.Verdicts.{Verdict, accepted, onwards}
+use Rattle.rules.specs.Judge.{judge_whole}
 use Rattle.fields.specs.declared.Verdict.TheVariants.{Accepted}
-use Rattle.fields.specs.RefusalLaws.{then_refusal}
 use Rattle.table.specs.Tables.{JudgedAs}
 use Rattle.table.specs.TableLaws.{who_back}
 use Rattle.table.specs.JudgedLaws.{judged_tidy, judged_accepted, going_by}
 use Rattle.table.specs.declared.Judged.{Judged}
 use Rattle.early.specs.Early.{Named}
-use Rattle.whole.specs.Whole.{both_tests, whole_test, whole_on, Ready}
-
--- ---- the judgement of the whole
-module _ (T : Table) where
-  -- the judge's last tests are these, and then the table is handed on
-  whole_judged : judge_whole T ≡ (whole_test T then accepted T)
-  whole_judged =
-      whole_row T
-      ∙ sym
-      (then_assoc (both_tests T) (early_test T T.decider) (accepted T)
-      ∙ then_assoc (pairs_test clashes CLASH T) (pairs_test races RACE T) (early_test T T.decider then accepted T))
-
-  pub whole_refused : (q : Refusal) → refusal_of q ≡ whole_test T → judge_whole T ≡ refusal_of q
-  whole_refused q e = whole_judged ∙ then_refusal q (accepted T) (sym e)
-
-  pub whole_accepted : whole_test T ≡ accepted tt → judge_whole T ≡ accepted T
-  whole_accepted e = whole_judged ∙ then_accepts (accepted T) e
+use Rattle.whole.specs.Whole.{whole_on, Ready}
 
 -- ---- what passes on: as many words as modes, 32 modes at most, and a decider that is an operation
 pub record Fit (T : Table) : Type 0 where

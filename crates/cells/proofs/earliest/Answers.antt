@@ -1,15 +1,13 @@
 -- No reader that was visited starts before the number, which falls where one does.
 -- Assumes nothing.
-use Prim.Native.Nat.{◌^◌, ◌≤◌}
+use Prim.Native.Nat.{◌^◌}
 use mathlib.Core.Path.{◌≡◌}
 use native.Mathlib.Omega.{arith}
 use Rattle.theory.specs.Tests.{without}
 use Rattle.theory.proofs.Sets.{in_small}
 use Rattle.sets.specs.Members.{rest_less}
-use Rattle.columns.specs.Columns.{op_by}
 use Rattle.cells.specs.WalkLaws.{walked_none, early_more, early_all}
 use Rattle.cells.proofs.earliest.Goals as goal
-use Rattle.cells.proofs.earliest.Goals.{then-start-early, else-start-early}
 
 pub loop-left-init : goal.loop-left-init
 loop-left-init c = (omega arith, walked_none _ _)
@@ -42,9 +40,7 @@ loop-left-preserved c =
     let i = f in
     let cols = i.args.cols.now in
     let e : c.rest-left.result ≡ without i.loop-left.left (2 ^ m.result) = c.rest-left.ensures in
-    let lower : f.if-start-early.early ≤ i.loop-left.early = elim f.if-start-early.branch [ then-start-early w ↦ omega arith | else-start-early w ↦ omega arith ] in
-    let before : f.if-start-early.early ≤ (op_by cols m.result).start = elim f.if-start-early.branch [ then-start-early w ↦ omega arith | else-start-early w ↦ omega arith ] in
-    (omega arith, rw e (early_more cols m.result m.ensures.member lower before i.loop-left.invariant.1))
+    (omega arith, rw e (early_more cols m.result m.ensures.member (grind arith) (grind arith) i.loop-left.invariant.1))
 
 pub returns : goal.returns
 returns c =

@@ -41,7 +41,7 @@ returns c = let e3 = c in
     let e1 = e2 in
     rw (
       is_so e2.meets-mode.ensures e2.if-not-mode.false-raw,
-      is_so (lap (op_of e1.args.o) (op_of e1.args.u) e1.end_of.ensures e1.end_of-2.ensures e1.overlap.ensures) e1.if-not-overlap.false-raw,
+      is_so (lap (op_of e3.args.o) (op_of e3.args.u) e3.end_of.ensures e3.end_of-2.ensures e3.overlap.ensures) e3.if-not-overlap.false-raw,
       ← e3.meets.ensures,
       e3.if-meets.false,
     )

@@ -6,7 +6,7 @@ use borrow.Author.Rules.{rules}
 use Rattle.fields.specs.Verdicts.{tested}
 use Rattle.table.specs.JudgedLaws.{granted}
 use Rattle.table.specs.TableLaws.{kept_few}
-use Rattle.whole.specs.WholeLaws.{whole_refused, whole_accepted}
+use Rattle.whole.proofs.WholeJudged.{whole_refused, whole_accepted}
 use Rattle.whole.proofs.judge_table.Goals as goal
 
 pub whole_test-v-requires : goal.whole_test-v-requires
