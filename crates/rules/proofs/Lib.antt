@@ -1,3 +1,4 @@
 pub mod Tried
 pub mod TriedRenamed
 pub mod TriedGaps
+pub mod TriedPlaces

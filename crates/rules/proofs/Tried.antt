@@ -37,11 +37,11 @@ in_small n s m small h x =
 pub in_zero : (m : ℕ) → In m 0 → ⊥
 in_zero m = in_small 0 0 m (omega arith) (omega arith)
 
-only_zero : (m : ℕ) → In m 1 → m ≡ 0
+pub only_zero : (m : ℕ) → In m 1 → m ≡ 0
 only_zero zero h = refl
 only_zero (suc m) h = absurd (in_small 1 1 (suc m) (omega arith) (omega arith) h)
 
-only_one : (m : ℕ) → In m 2 → m ≡ 1
+pub only_one : (m : ℕ) → In m 2 → m ≡ 1
 unfolding has
 only_one zero h = absurd (false≢true h)
 only_one (suc zero) h = refl

@@ -23,7 +23,7 @@ use Rattle.rules.proofs.Tried.{in_zero, run5, twice, k4_wrong, k7_wrong, k9_idle
 -- ---- "each at least that long"
 
 -- gaps of 3 are at least 3 long, and so are gaps of 4
-just : Apart 3 (spaced 3)
+pub just : Apart 3 (spaced 3)
 just = record { next = λ k. omega arith }
 
 longer : Apart 3 (spaced 4)
@@ -122,7 +122,7 @@ k1_unread : (j c : ℕ) → In c (op k1 j).reads → ⊥
 k1_unread zero c h = in_zero c h
 k1_unread (suc j) c h = in_zero c h
 
-k1_serves : Serves k1 3
+pub k1_serves : Serves k1 3
 k1_serves s a = record { boards = k1_boards s a; values = unread k1 k1_unread s }
 
 -- so its gap is 3 and no other: 2 does not serve, and 4, which does, is not the smallest

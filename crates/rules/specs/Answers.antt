@@ -4,9 +4,10 @@ use Rattle.std.specs.Prelude.{ℕ, ◌≡◌, Bool, true, cond, not, ◌&&◌, L
 use Rattle.rules.specs.Table.{Table, nops}
 use Rattle.rules.specs.Runs.{BoardsRightAt, ValuesRightAt, spaced, IsPeriod}
 use Rattle.rules.specs.Gaps.{IsGap}
+use Rattle.rules.specs.Places.{EachPlaces}
 use Rattle.rules.specs.Rows.{Reply, reply_of, starts_of, margin}
 use Rattle.rules.specs.Verdicts.{Verdict, accepted, refused, ROOM, ASK, Test, refuse_if, ◌then◌, onwards}
-use Rattle.rules.specs.Bytes.{table_bytes, reply_bytes, starts_bytes}
+use Rattle.rules.specs.Bytes.{table_bytes, reply_bytes, starts_bytes, places_bytes}
 use Rattle.rules.specs.Judge.{judge, Numbers, judge_numbers, judge_reply}
 use Rattle.rules.specs.Text.{text_of, told, yes_no_line, margin_line, gap_line, starts_text}
 use Rattle.rules.specs.Words.{Question, fold_asked, boards_asked, values_asked, margin_asked, unfold_asked, gap_asked, nothing_asked, question_of, is_asked, askable}
@@ -98,6 +99,20 @@ IsPeriodOf s v = Answers IsPeriod (judge s) v
 -- ---- document 02, No. 6, "Give the smallest gap": the gap of a table's bytes, or the refusal
 abbrev pub IsGapOf : List ℕ → Verdict ℕ → Type 0
 IsGapOf s v = Answers IsGap (judge s) v
+
+-- ---- document 02, No. 1, "For each cell, give the smallest number R of places for the period found"
+
+-- the places of T's cells
+abbrev pub PlacesFor : Table → List ℕ → Type 0
+PlacesFor T rs = (q : ℕ) × IsPeriod T q × EachPlaces T q rs
+
+-- the places of a table's bytes, or the refusal
+abbrev pub PlacesTo : List ℕ → Verdict (List ℕ) → Type 0
+PlacesTo s v = Answers PlacesFor (judge s) v
+
+-- a table's bytes in, the numbers' bytes out
+abbrev pub IsStored : List ℕ → List ℕ → Written → Type 0
+IsStored s out w = (v : Verdict (List ℕ)) × PlacesTo s v × (w ≡ written (bytes_of places_bytes v) out)
 
 -- ---- document 02, No. 10, "Ask about boards or about values": two questions, "each with its own answer for every table and period"
 

@@ -1,5 +1,5 @@
 -- Document 01, "Bench tables": K1 to K10, those marked to be proved, each with its whole answer, as one list; and a list of tables with a decider,
--- for document 02, No. 4, of tables with a hold, for No. 9, of tables that are renamed, for No. 12, and of gaps, for No. 6.
+-- for document 02, No. 4, of tables with a hold, for No. 9, of tables that are renamed, for No. 12, of gaps, for No. 6, and of places, for No. 1.
 -- Assumes nothing.
 use Rattle.std.specs.Prelude.{ℕ, Bool, true, false, List, [], ◌∷◌, ◌++◌, ℤ, pos, negsuc, get_or}
 use Rattle.rules.specs.Table.{Op, Decider, nobody, decides, Table}
@@ -7,7 +7,7 @@ use Rattle.rules.specs.Rows.{Row, Reply, ticks, cycles}
 use Rattle.rules.specs.Renamed.{Names, in_order, boards_by, modes_by}
 use Rattle.rules.specs.Verdicts.{Verdict, accepted, refused}
 use Rattle.rules.specs.Bytes.{table_bytes}
-use Rattle.rules.specs.Answers.{ReplyTo, IsMargin, BoardsFit, ValuesArrive, IsGapOf}
+use Rattle.rules.specs.Answers.{ReplyTo, IsMargin, BoardsFit, ValuesArrive, IsGapOf, PlacesTo}
 
 -- ---- how they are written down: start, duration, boards, reads, writes, modes; and with a hold behind the duration
 abbrev pub opn : ℕ → ℕ → ℕ → ℕ → ℕ → ℕ → Op
@@ -462,4 +462,149 @@ gap_bench =
     ∷ gaps (table_bytes hasty) (refused 10 0 1)
     ∷ gaps (k1_20 3 2) (refused 4 22 29)
     ∷ gaps [] (refused 2 0 0)
+    ∷ []
+
+-- ---- document 02, No. 1: places for each stored value
+
+-- p 6: [0,1) board 0 writes c0; [1,6) board 1 reads it, and so does [2,3) board 2. At the period 5 the reader that started first ends last, and the
+-- next write starts before that: 2 places
+abbrev pub last_reader : Table
+last_reader = one_mode 6 3 1 (opn 0 1 1 0 1 1 ∷ opn 1 5 2 1 0 1 ∷ opn 2 1 4 1 0 1 ∷ [])
+
+-- p 6: [0,1) board 0 writes c0; [5,6) board 1 writes it too, and nobody reads it; [0,3) board 2. At the period 3 the write that is later in plain
+-- order starts and ends first: 2 places
+abbrev pub later_write : Table
+later_write = one_mode 6 3 1 (opn 0 1 1 0 1 1 ∷ opn 5 1 2 0 1 1 ∷ opn 0 3 4 0 0 1 ∷ [])
+
+-- the same without the third: at the period 1 a value meets the first, third, fifth, seventh and ninth after it, so that 2 places are enough and 3
+-- are not
+abbrev pub crossing : Table
+crossing = one_mode 6 2 1 (opn 0 1 1 0 1 1 ∷ opn 5 1 2 0 1 1 ∷ [])
+
+-- "A step that reads a value and writes the cell again", p 4: [0,2) board 0 reads and writes c0. 1 place
+abbrev pub own_read : Table
+own_read = one_mode 4 1 1 (opn 0 2 1 1 1 1 ∷ [])
+
+-- p 5, mode 0 first and then mode 1 for ever: [0,5) board 0 reads c0 in mode 0; [0,1) board 1 writes it in mode 1. At the period 1 four writes start
+-- while the reader still has value 0: 5 places, where the values that are written ask for one
+abbrev pub initial_value : Table
+initial_value =
+    record {
+      len = 5;
+      boards = 2;
+      cells = 1;
+      modes = 2;
+      first = 1;
+      follow = 2 ∷ 2 ∷ [];
+      ops = opn 0 5 1 1 0 1 ∷ opn 0 1 2 0 1 2 ∷ [];
+      decider = nobody;
+    }
+
+-- the same with a mode between in which nothing runs: the first write comes two cycles after the reader, and there are 4 places
+abbrev pub idle_between : Table
+idle_between =
+    record {
+      len = 5;
+      boards = 2;
+      cells = 1;
+      modes = 3;
+      first = 1;
+      follow = 2 ∷ 4 ∷ 4 ∷ [];
+      ops = opn 0 5 1 1 0 1 ∷ opn 0 1 2 0 1 4 ∷ [];
+      decider = nobody;
+    }
+
+-- p 6: [0,1) board 0 writes c0 in both modes; [1,2) board 1 reads it in mode 0; [1,6) board 2 reads it in mode 1, which is never reached. At the
+-- period 1 there are 2 places; the long reader would ask for 6
+abbrev pub unreached_reader : Table
+unreached_reader =
+    record {
+      len = 6;
+      boards = 3;
+      cells = 1;
+      modes = 2;
+      first = 1;
+      follow = 1 ∷ 2 ∷ [];
+      ops = opn 0 1 1 0 1 3 ∷ opn 1 1 2 1 0 1 ∷ opn 1 5 4 1 0 2 ∷ [];
+      decider = nobody;
+    }
+
+-- p 7, two modes that alternate: in mode 0 [0,1) board 0 writes c0, and [2,7) board 1 reads it; in mode 1 nothing runs. At the period 3 the next
+-- write, two cycles later, starts before the reader has ended: 2 places
+abbrev pub two_cycles : Table
+two_cycles =
+    record {
+      len = 7;
+      boards = 2;
+      cells = 1;
+      modes = 2;
+      first = 1;
+      follow = 2 ∷ 1 ∷ [];
+      ops = opn 0 1 1 0 1 1 ∷ opn 2 5 2 1 0 1 ∷ [];
+      decider = nobody;
+    }
+
+-- p 6: [0,1) board 0 writes c0 and c3; [1,6) board 1 reads c0 and c1. c1 is never written, c2 not used, c3 never read: 1 place each
+abbrev pub four_cells : Table
+four_cells = one_mode 6 2 4 (opn 0 1 1 0 9 1 ∷ opn 1 5 2 3 0 1 ∷ [])
+
+-- p 6: [0,1) board 0 writes c0 and c1; [1,2) board 1 with hold 3 reads c0 and writes c1. At the period 4 the next writes start while board 1 still
+-- settles, and both lives are over: 1 place each
+abbrev pub settling_reader : Table
+settling_reader = one_mode 6 2 2 (opn 0 1 1 0 3 1 ∷ held 1 1 3 2 1 2 1 ∷ [])
+
+-- "Demand 3 says nothing about places.": p 6; [0,1) board 0 writes c0; [3,5) board 1 reads it; board 2 for [0,6). Period 6, and 1 place
+abbrev pub slow_board : Table
+slow_board = one_mode 6 3 1 (opn 0 1 1 0 1 1 ∷ opn 3 2 2 1 0 1 ∷ opn 0 6 4 0 0 1 ∷ [])
+
+-- the same, better known, with board 2 for [0,3): period 3, and 2 places
+abbrev pub quick_board : Table
+quick_board = one_mode 6 3 1 (opn 0 1 1 0 1 1 ∷ opn 3 2 2 1 0 1 ∷ opn 0 3 4 0 0 1 ∷ [])
+
+-- a case: a table's bytes, and the places of its cells at its period, or the refusal
+pub record PlacesCase : Type 0 where
+  pub bytes : List ℕ
+  pub verdict : Verdict (List ℕ)
+
+-- what it claims: for each cell the smallest number that is enough in every run, at the smallest period that is right in every run; a refusal is the
+-- first that is due
+unfoldable pub PlacesHold : PlacesCase → Type 0
+PlacesHold k = PlacesTo k.bytes k.verdict
+
+abbrev pub stores : List ℕ → Verdict (List ℕ) → PlacesCase
+stores s v = record { bytes = s; verdict = v }
+
+abbrev pub places : Table → List ℕ → PlacesCase
+places T rs = stores (table_bytes T) (accepted rs)
+
+-- K1 to K9; the tables above; a table with a decider; refusals
+unfoldable pub places_bench : List PlacesCase
+unfolding k1_bytes table_bytes
+places_bench =
+    stores k1_bytes (accepted [])
+    ∷ places k2 (2 ∷ 2 ∷ [])
+    ∷ places k3 (1 ∷ 1 ∷ [])
+    ∷ places k4 []
+    ∷ places k5 []
+    ∷ places k6 []
+    ∷ places k7 (1 ∷ [])
+    ∷ places k8 (2 ∷ [])
+    ∷ places k9 []
+    ∷ places last_reader (2 ∷ [])
+    ∷ places later_write (2 ∷ [])
+    ∷ places crossing (2 ∷ [])
+    ∷ places own_read (1 ∷ [])
+    ∷ places initial_value (5 ∷ [])
+    ∷ places idle_between (4 ∷ [])
+    ∷ places unreached_reader (2 ∷ [])
+    ∷ places two_cycles (2 ∷ [])
+    ∷ places four_cells (2 ∷ 1 ∷ 1 ∷ 1 ∷ [])
+    ∷ places settling_reader (1 ∷ 1 ∷ [])
+    ∷ places analyzer (2 ∷ [])
+    ∷ places slow_board (1 ∷ [])
+    ∷ places quick_board (2 ∷ [])
+    ∷ stores (table_bytes k10) (refused 6 0 1)
+    ∷ stores (table_bytes hasty) (refused 10 0 1)
+    ∷ stores (k1_20 3 2) (refused 4 22 29)
+    ∷ stores [] (refused 2 0 0)
     ∷ []

@@ -132,3 +132,8 @@ row_at s at = record { start = ticks (num16 s (at + 3)); fst = cycles (num16 s (
 unfoldable pub starts_bytes : List Ticks → List ℕ
 unfolding joined
 starts_bytes = joined (λ (t : Ticks). be16 t.number)
+
+-- document 02, No. 1: the numbers of places of cells 0, 1, .., 2 bytes each
+unfoldable pub places_bytes : List ℕ → List ℕ
+unfolding joined
+places_bytes = joined be16

@@ -2,6 +2,7 @@ pub mod Sets
 pub mod Table
 pub mod Runs
 pub mod Gaps
+pub mod Places
 pub mod Better
 pub mod Rows
 pub mod Renamed

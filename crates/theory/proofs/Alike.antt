@@ -131,7 +131,7 @@ module _ (S T : Table) (s t f g : ℕ → ℕ) (c : Alike S T s t f g) where
 -- ---- carried
 
 -- a turn of an accepted table is between two of its modes
-turn_modes : (S : Table) → Accepted S → (a b : ℕ) → Turn S a b → (a < S.modes) × (b < S.modes)
+pub turn_modes : (S : Table) → Accepted S → (a b : ℕ) → Turn S a b → (a < S.modes) × (b < S.modes)
 turn_modes S ok a b x = (go (dec_lt a S.modes), in_small b S.modes (followers S a) (followers_lt S ok a) x)
   where
     go : Dec (a < S.modes) → a < S.modes
@@ -139,7 +139,7 @@ turn_modes S ok a b x = (go (dec_lt a S.modes), in_small b S.modes (followers S 
     go (no h) = absurd (in_none b (subst (λ (y : ℕ). In b y) (no_followers S ok a (omega arith)) x))
 
 module _ (S T : Table) (s t f g : ℕ → ℕ) (okS : Accepted S) (c : Alike S T s t f g) where
-  alike_carry : Carry S T s t f
+  pub alike_carry : Carry S T s t f
   alike_carry =
       record {
         len = c.len;

@@ -40,7 +40,7 @@ answers_unique P one (accepted x) v w p q = p.2 ∙ ap accepted (one x p.0 q.0 p
 answers_unique P one (refused n a b) v w p q = p ∙ sym q
 
 -- an answer for each thing accepted: a verdict
-answers_exist : {A B : Type 0} (P : A → B → Type 0) (f : A → B) (u : Verdict A) → ((x : A) → u ≡ accepted x → P x (f x))
+pub answers_exist : {A B : Type 0} (P : A → B → Type 0) (f : A → B) (u : Verdict A) → ((x : A) → u ≡ accepted x → P x (f x))
     → Answers P u (onwards u (λ x. accepted (f x)))
 unfolding Answers onwards
 answers_exist P f (accepted x) g = (f x, g x refl, refl)
@@ -83,7 +83,7 @@ put_length bytes out = go (dec_lt (length out) (length bytes))
         ap (λ (w : Written). length w.buffer) (put_room bytes out (omega arith))
         ∙ omega (arith, length-append bytes (drop (length bytes) out), length-drop (length bytes) out)
 
-written_length : (v : Verdict (List ℕ)) (out : List ℕ) → length (written v out).buffer ≡ length out
+pub written_length : (v : Verdict (List ℕ)) (out : List ℕ) → length (written v out).buffer ≡ length out
 unfolding written
 written_length (accepted bytes) out = put_length bytes out
 written_length (refused n a b) out = refl

@@ -14,13 +14,13 @@ use Rattle.theory.proofs.Order.{not_below}
 use Rattle.theory.proofs.Exists.{run_mode}
 use Rattle.theory.proofs.Sources.{ended_iff_started, writes_in_order}
 
-mode_map : (f : ℕ → ℕ) (r : List ℕ) (k : ℕ) → k < length r → mode (map f r) k ≡ f (mode r k)
+pub mode_map : (f : ℕ → ℕ) (r : List ℕ) (k : ℕ) → k < length r → mode (map f r) k ≡ f (mode r k)
 mode_map f [] k h = absurd (omega arith)
 mode_map f (m ∷ r) zero h = refl
 mode_map f (m ∷ r) (suc k) h = mode_map f r k (omega arith)
 
 module _ (S T : Table) (s t f : ℕ → ℕ) (c : Carry S T s t f) (okS : Accepted S) where
-  run_of : (r : List ℕ) → IsRun S r → IsRun T (map f r)
+  pub run_of : (r : List ℕ) → IsRun S r → IsRun T (map f r)
   run_of r x =
       record {
         some = omega (arith, x.some, length-map r f);
@@ -31,7 +31,7 @@ module _ (S T : Table) (s t f : ℕ → ℕ) (c : Carry S T s t f) (okS : Accept
       }
 
   module _ (r : List ℕ) (run : IsRun S r) where
-    runs_of : (k i : ℕ) → Runs S r k i → Runs T (map f r) k (s i)
+    pub runs_of : (k i : ℕ) → Runs S r k i → Runs T (map f r) k (s i)
     runs_of k i x =
         record {
           cycle = omega (arith, x.cycle, length-map r f);
@@ -40,7 +40,7 @@ module _ (S T : Table) (s t f : ℕ → ℕ) (c : Carry S T s t f) (okS : Accept
               rw (mode_map f r k x.cycle) (((c.each i x.is_op).modes (mode r k) (run_mode S okS r run k x.cycle)).0 x.in_mode);
         }
 
-    runs_to : (k i : ℕ) → i < nops S → Runs T (map f r) k (s i) → Runs S r k i
+    pub runs_to : (k i : ℕ) → i < nops S → Runs T (map f r) k (s i) → Runs S r k i
     runs_to k i h x =
         let l : k < length r = omega (arith, x.cycle, length-map r f) in
         record {

@@ -44,7 +44,7 @@ module _ (T : Table) where
 
   module _ (r : List ℕ) (k a b : ℕ) (e : Ends T r k a) (f : Turn T a b) where
     -- what stood at m stands there still
-    snoc_keeps : (m : ℕ) → m ≤ k → mode (r ++ (b ∷ [])) m ≡ mode r m
+    pub snoc_keeps : (m : ℕ) → m ≤ k → mode (r ++ (b ∷ [])) m ≡ mode r m
     snoc_keeps m h = get_or-append r (b ∷ []) 0 m (omega (arith, e.size))
 
     snoc_last : mode (r ++ (b ∷ [])) (suc k) ≡ b
@@ -59,7 +59,7 @@ module _ (T : Table) where
         go (Cmp.more x) = absurd (omega (arith, e.size, length-append r (b ∷ [])))
 
     -- one cycle more
-    snoc : Ends T (r ++ (b ∷ [])) (suc k) b
+    pub snoc : Ends T (r ++ (b ∷ [])) (suc k) b
     snoc =
         record {
           run =
@@ -73,7 +73,7 @@ module _ (T : Table) where
         }
 
   -- a reachable mode ends some run
-  reach_run : {a : ℕ} → Reach T a → (r : List ℕ) × (k : ℕ) × Ends T r k a
+  pub reach_run : {a : ℕ} → Reach T a → (r : List ℕ) × (k : ℕ) × Ends T r k a
   reach_run (begin {a = a} h) = (a ∷ [], 0, single h)
   reach_run (turn {a = a} {b = b} x f) = let (r, k, e) = reach_run x in (r ++ (b ∷ []), suc k, snoc r k a b e f)
 

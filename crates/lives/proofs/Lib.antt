@@ -1,0 +1,15 @@
+pub mod Sums
+pub mod Counts
+pub mod Cycles
+pub mod Chain
+pub mod Finite
+pub mod Bounds
+pub mod ByWalks
+pub mod Left
+pub mod Far
+pub mod Rows
+pub mod Readings
+pub mod Answered
+pub mod Stored
+pub mod RenamedPlaces
+pub mod PlacesBench

@@ -1,0 +1,10 @@
+-- By the test.
+-- Assumes nothing.
+use native.Mathlib.Omega.{arith}
+use Rattle.remains.proofs.larger.Goals as goal
+
+pub returns-then-a-b : goal.returns-then-a-b
+returns-then-a-b c = omega arith
+
+pub returns : goal.returns
+returns c = omega arith
