@@ -18,7 +18,7 @@ use table::Table;
 pub const LONGEST: usize = 780;
 
 // A text: its first `len` bytes count, and the others are zero.
-#[derive(Drop)]
+#[derive(Clone, Copy)]
 pub struct Text {
     pub bytes: [u8; LONGEST],
     pub len: usize,
