@@ -7,6 +7,9 @@ ghost use Rattle.columns.specs.Columns.{Short};
 ghost use Rattle.arrivals.specs.Arrivals.{Every, ReaderFine};
 ghost use Rattle.raises.specs.Raises.{Raised, InTime};
 
+use columns::Dated;
+use sets::Members;
+
 // The bound, raised until what is written at `end` is in time for a reader that starts n + 1 cycles later, if the value comes to one of its
 // fresh modes.
 fn ask_reader(modes: u32, fresh: u32, end: u32, start: u32, n: u32, bound: u32) -> u32
@@ -21,7 +24,7 @@ fn ask_reader(modes: u32, fresh: u32, end: u32, start: u32, n: u32, bound: u32) 
 
 // The bound, raised by every reader of a value that has come to the modes `modes` after n + 1 turns.
 pub fn ask_readers(
-    cols: &[u32; 224],
+    cols: &[Dated; 32],
     readers: u32,
     fresh: &[u32; 32],
     modes: u32,
@@ -33,12 +36,9 @@ pub fn ask_readers(
     ensures { Raised bound (Every (ReaderFine cols.now (λ j. get_or fresh.now j 0) modes end n) readers) result }
 {
     let mut most = bound;
-    let mut left = readers;
-    while left != 0 {
-        let m = sets::lowest(left);
+    for m in Members(readers) {
         let j = m as usize;
         most = ask_reader(modes, fresh[j], end, columns::start(cols, j), n, most);
-        left = sets::rest(left, m);
     }
     most
 }

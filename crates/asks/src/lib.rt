@@ -7,8 +7,5 @@ ghost use Rattle.std.specs.Prelude.{◌≡◌, true, ◌↔◌, ◌≤◌};
 pub fn in_range(x: u64, top: u64) -> bool
     ensures { (result ≡ true) ↔ ((1 ≤ x) × (x ≤ top)) }
 {
-    if x < 1 {
-        return false;
-    }
-    x <= top
+    (1..=top).contains(&x)
 }

@@ -5,8 +5,67 @@
 
 ghost use Rattle.std.specs.Prelude.{◌≤◌, length, IfOk};
 
-use fields::Answer;
+use fields::Refusal;
 use std::{fs, io};
+
+// The tables of data/, in the order in which they are printed.
+const TABLES: [&str; 46] = [
+    // document 01
+    "k01",
+    "k02",
+    "k03",
+    "k04",
+    "k05",
+    "k06",
+    "k07",
+    "k08",
+    "k09",
+    "k10",
+    "k10-touching",
+    // document 01, the others
+    "empty",
+    "k01-duration-5",
+    "k01-duration-4",
+    "k01-length-1000",
+    "k01-length-1001",
+    "k01-32-times",
+    "k01-33-times",
+    // the papers' own
+    "fig-4",
+    "fig-8",
+    "fig-14",
+    "fig-11",
+    "fig-11-every-turn",
+    "knock",
+    // the analyzers
+    "notch",
+    "notch-cold-to-warm",
+    "analyzer-typed-turns",
+    "analyzer-cold-to-warm",
+    "analyzer-check-reading",
+    "analyzer-rinse",
+    // tables with a decider
+    "k01-decides",
+    "analyzer-decides",
+    "analyzer-decides-early",
+    "analyzer-sorted",
+    // tables with a hold
+    "k01-hold",
+    "probe",
+    "probe-polarised",
+    "probe-too-soon",
+    "notch-polarised",
+    // tables with a number or set out of its range
+    "slip-board",
+    "slip-followers",
+    "slip-two",
+    "slip-hold",
+    // the largest table
+    "largest",
+    // tables whose cycles the operator starts
+    "button",
+    "button-rinse",
+];
 
 fn line(rt: &HostRuntime, text: &[u8]) {
     printing::print(rt, text);
@@ -31,102 +90,16 @@ fn one(rt: &HostRuntime, path: &str) {
     }
 }
 
-// ---- document 01
-
-fn starred(rt: &HostRuntime) {
-    one(rt, "k01");
-    one(rt, "k02");
-    one(rt, "k03");
-    one(rt, "k04");
-    one(rt, "k05");
-    one(rt, "k06");
-}
-
-fn starred_rest(rt: &HostRuntime) {
-    one(rt, "k07");
-    one(rt, "k08");
-    one(rt, "k09");
-    one(rt, "k10");
-    one(rt, "k10-touching");
-}
-
-fn unstarred(rt: &HostRuntime) {
-    one(rt, "empty");
-    one(rt, "k01-duration-5");
-    one(rt, "k01-duration-4");
-    one(rt, "k01-length-1000");
-    one(rt, "k01-length-1001");
-    one(rt, "k01-32-times");
-    one(rt, "k01-33-times");
-}
-
-// ---- the papers, the analyzers, and the largest table
-
-fn papers(rt: &HostRuntime) {
-    one(rt, "fig-4");
-    one(rt, "fig-8");
-    one(rt, "fig-14");
-    one(rt, "fig-11");
-    one(rt, "fig-11-every-turn");
-    one(rt, "knock");
-}
-
-fn analyzers(rt: &HostRuntime) {
-    one(rt, "notch");
-    one(rt, "notch-cold-to-warm");
-    one(rt, "analyzer-typed-turns");
-    one(rt, "analyzer-cold-to-warm");
-    one(rt, "analyzer-check-reading");
-    one(rt, "analyzer-rinse");
-}
-
-// tables with a decider
-fn deciders(rt: &HostRuntime) {
-    one(rt, "k01-decides");
-    one(rt, "analyzer-decides");
-    one(rt, "analyzer-decides-early");
-    one(rt, "analyzer-sorted");
-}
-
-// tables with a hold
-fn holds(rt: &HostRuntime) {
-    one(rt, "k01-hold");
-    one(rt, "probe");
-    one(rt, "probe-polarised");
-    one(rt, "probe-too-soon");
-    one(rt, "notch-polarised");
-}
-
-// tables with a number or set out of its range
-fn slips(rt: &HostRuntime) {
-    one(rt, "slip-board");
-    one(rt, "slip-followers");
-    one(rt, "slip-two");
-    one(rt, "slip-hold");
-}
-
-fn station(rt: &HostRuntime) {
-    one(rt, "largest");
-}
-
-// tables whose cycles the operator starts
-fn buttons(rt: &HostRuntime) {
-    one(rt, "button");
-    one(rt, "button-rinse");
-}
-
 // ---- K1 into few bytes
 
-fn say(rt: &HostRuntime, answer: Answer) {
+fn say(rt: &HostRuntime, answer: Result<usize, Refusal>) {
     match answer {
-        Answer::Wrote(n) => {
-            printing::print(rt, b"wrote ");
-            if let Err(error) = print!(rt; "{n}") {
+        Ok(n) => {
+            if let Err(error) = println!(rt; "wrote {n}") {
                 printing::fail(rt, "standard output", error);
             }
-            printing::print(rt, b"\n");
         }
-        Answer::Denied(r) => printing::print_refusal(rt, r),
+        Err(r) => printing::print_refusal(rt, r),
     }
 }
 
@@ -148,15 +121,8 @@ fn k1_into_few(rt: &HostRuntime) {
 }
 
 fn main(rt: HostRuntime) {
-    starred(&rt);
-    starred_rest(&rt);
-    unstarred(&rt);
-    papers(&rt);
-    analyzers(&rt);
-    deciders(&rt);
-    holds(&rt);
-    slips(&rt);
-    station(&rt);
-    buttons(&rt);
+    for name in TABLES {
+        one(&rt, name);
+    }
     k1_into_few(&rt);
 }

@@ -12,10 +12,11 @@ use Rattle.theory.proofs.Sets.{says_shares}
 use Rattle.theory.proofs.Tests.{says_overlaps}
 use Rattle.columns.specs.Columns.{op_by, Columns}
 use Rattle.columns.specs.ColumnLaws.{op_there_lem}
+use Rattle.columns.specs.declared.Dated.{Dated}
 use Rattle.turns.specs.Turns.{TurnsOf}
 use Rattle.boards.specs.Boards.{BadAt, Wrong, FirstRight, FirstFine}
 
-module _ (T : Table) (ok : Accepted T) (cols : List ℕ) (c : Columns T cols) where
+module _ (T : Table) (ok : Accepted T) (cols : List Dated) (c : Columns T cols) where
   module _ (F : List ℕ) (same : TurnsOf T F) (R x : ℕ) (low : 1 ≤ x) where
     -- two operations, in any terms
     abbrev Pair : ℕ → Op → Op → Type 0

@@ -7,11 +7,13 @@ ghost use Rattle.columns.specs.Columns.{Short};
 ghost use Rattle.turns.specs.Turns.{TurnsBy};
 ghost use Rattle.boards.specs.Boards.{EndsBy, Sized, Swept, FirstRight};
 
+use columns::Dated;
+
 // One distance more: all that is wrong n + 1 cycles apart is marked, and the first period that is not marked is given back.
 fn sweep_distance(
-    wrong: &mut [u8; 1000],
+    wrong: &mut [bool; 1000],
     later: &mut [u32; 32],
-    cols: &[u32; 224],
+    cols: &[Dated; 32],
     row: &[u32; 32],
     reached: u32,
     len: u32,
@@ -30,9 +32,9 @@ fn sweep_distance(
 // Sixteen distances, from done + 1 on, by their rows. It may end early: where so many cycles take until the end of the table, or where no
 // operation may meet another any more, nothing is wrong at any further distance.
 fn sweep_block(
-    wrong: &mut [u8; 1000],
+    wrong: &mut [bool; 1000],
     later: &mut [u32; 32],
-    cols: &[u32; 224],
+    cols: &[Dated; 32],
     rows: [[u32; 32]; 16],
     reached: u32,
     len: u32,
@@ -46,8 +48,7 @@ fn sweep_block(
         → Swept F cols.now reached len b (done + 16) result later.new wrong.new) }
 {
     let mut first = q;
-    let mut k: usize = 0;
-    while k < 16 {
+    for (k, row) in rows.iter().enumerate() {
         let n = done + k as u32;
         if len <= (n + 1) * first {
             return first;
@@ -55,17 +56,16 @@ fn sweep_block(
         if laters::none_left(later) {
             return first;
         }
-        first = sweep_distance(wrong, later, cols, &rows[k], reached, len, n, first);
-        k += 1;
+        first = sweep_distance(wrong, later, cols, row, reached, len, n, first);
     }
     first
 }
 
-// All further distances, a block of rows after the other.
+// All further distances, a block of rows after the other: it ends by what is left, not at a count.
 fn sweep_rest(
-    wrong: &mut [u8; 1000],
+    wrong: &mut [bool; 1000],
     later: &mut [u32; 32],
-    cols: &[u32; 224],
+    cols: &[Dated; 32],
     follow: &[u32; 32],
     reached: u32,
     len: u32,
@@ -95,12 +95,18 @@ fn sweep_rest(
 
 // The first period from `bound` on at which the boards are right, for runs through the modes `reached`. The row of one turn is the followers
 // themselves, so that a block of rows is made only where a second distance counts.
-pub fn first_right(follow: &[u32; 32], cols: &[u32; 224], len: u32, reached: u32, bound: u32) -> u32
+pub fn first_right(
+    follow: &[u32; 32],
+    cols: &[Dated; 32],
+    len: u32,
+    reached: u32,
+    bound: u32,
+) -> u32
     requires { (length follow.now ≡ 32) × Short cols.now × EndsBy cols.now len × (len ≤ 1000) × (1 ≤ bound) × (bound ≤ len) }
     ensures { FirstRight follow.now cols.now reached len bound result }
 {
     let mut later = laters::later_sets(cols, bound);
-    let mut wrong = [0u8; 1000];
+    let mut wrong = [false; 1000];
     let q = sweep_distance(&mut wrong, &mut later, cols, follow, reached, len, 0, bound);
     sweep_rest(&mut wrong, &mut later, cols, follow, reached, len, q)
 }

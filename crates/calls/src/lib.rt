@@ -2,64 +2,33 @@
 #![tactic(auto)]
 
 ghost use Rattle.figures.specs.Figures.{figures_of};
-ghost use Rattle.handed.specs.Handed.{numbers};
+ghost use Rattle.handed.specs.Handed.{numbers_of};
 ghost use Rattle.telling.specs.Telling.{ended};
 ghost use Rattle.calls.specs.Calls.{JudgeTells, NumbersTell, WriteEnds, PlanEnds, FoldEnds, UnfoldEnds, PeriodTells, GapTells, BoardsTell, ValuesTell, MarginEnds};
+
+use handed::Numbers;
 
 // A table's bytes, judged.
 pub fn judge(s: &[u8], a: &mut u64, b: &mut u64) -> u32
     ensures { JudgeTells s.now (figures_of result a.new b.new) }
 {
-    let judged = reading::read(s);
-    let verdict = judged.verdict;
+    let verdict = reading::read(s).and(Ok(()));
     telling::tell(telling::verdict_told(verdict), a, b)
 }
 
 // A table that is handed over as numbers, judged.
-pub fn judge_numbers(
-    p: u64,
-    boards: u64,
-    cells: u64,
-    modes: u64,
-    first: u64,
-    follow: &[u64],
-    ops: &[u64],
-    holds: &[u64],
-    mark: u64,
-    decider: u64,
-    a: &mut u64,
-    b: &mut u64,
-) -> u32
-    ensures { NumbersTell (numbers p boards cells modes first follow.now ops.now holds.now mark decider) (figures_of result a.new b.new) }
+pub fn judge_numbers(n: Numbers, a: &mut u64, b: &mut u64) -> u32
+    ensures { NumbersTell (numbers_of n.entry) (figures_of result a.new b.new) }
 {
-    let judged = handed::judge(
-        p, boards, cells, modes, first, follow, ops, holds, mark, decider,
-    );
-    let outcome = judged.verdict;
+    let outcome = handed::judge(n).and(Ok(()));
     telling::tell(telling::verdict_told(outcome), a, b)
 }
 
 // A table that is handed over as numbers, judged and written.
-pub fn write(
-    p: u64,
-    boards: u64,
-    cells: u64,
-    modes: u64,
-    first: u64,
-    follow: &[u64],
-    ops: &[u64],
-    holds: &[u64],
-    mark: u64,
-    decider: u64,
-    out: &mut [u8],
-    a: &mut u64,
-    b: &mut u64,
-) -> u32
-    ensures { WriteEnds (numbers p boards cells modes first follow.now ops.now holds.now mark decider) out.old (ended (figures_of result a.new b.new) out.new) }
+pub fn write(n: Numbers, out: &mut [u8], a: &mut u64, b: &mut u64) -> u32
+    ensures { WriteEnds (numbers_of n.entry) out.old (ended (figures_of result a.new b.new) out.new) }
 {
-    let table = planner::write_table(
-        p, boards, cells, modes, first, follow, ops, holds, mark, decider, out,
-    );
+    let table = planner::write_table(n, out);
     telling::tell(telling::answer_told(table), a, b)
 }
 

@@ -95,25 +95,25 @@ adding_all {users} {out} {k} {cells} a = record { long = a.long; each = λ c j l
 -- ---- the operations
 
 -- the first k operations are in the sets of their cells
-pub record Turning (cols : List ℕ) (at k : ℕ) (users : List ℕ) : Type 0 where
+pub record Turning (sets : ℕ → ℕ) (k : ℕ) (users : List ℕ) : Type 0 where
   pub long : length users ≡ 32
-  pub each : (c j : ℕ) → c < 32 → In j (get_or users c 0) ↔ ((j < k) × In c (get_or cols (at + j) 0))
+  pub each : (c j : ℕ) → c < 32 → In j (get_or users c 0) ↔ ((j < k) × In c (sets j))
 
-pub turning_none : (cols : List ℕ) (at : ℕ) → Turning cols at 0 (replicate 32 0)
-turning_none cols at = record { long = refl; each = λ c j l. (λ h. absurd (in_none j (rw (get_or-replicate {A = ℕ} 32 c 0 0 l) at h)), λ h. absurd (omega (arith, h.0))) }
+pub turning_none : (sets : ℕ → ℕ) → Turning sets 0 (replicate 32 0)
+turning_none sets = record { long = refl; each = λ c j l. (λ h. absurd (in_none j (rw (get_or-replicate {A = ℕ} 32 c 0 0 l) at h)), λ h. absurd (omega (arith, h.0))) }
 
-pub turning_more : {cols users out : List ℕ} {at k : ℕ} → Turning cols at k users → Added users k (get_or cols (at + k) 0) out → Turning cols at (k + 1) out
-turning_more {cols} {users} {out} {at} {k} t a =
+pub turning_more : {sets : ℕ → ℕ} {users out : List ℕ} {k : ℕ} → Turning sets k users → Added users k (sets k) out → Turning sets (k + 1) out
+turning_more {sets} {users} {out} {k} t a =
     record { long = omega (arith, t.long, a.long); each = λ c j l. (λ h. fwd c j l ((a.each c j l).0 h), λ h. (a.each c j l).1 (bwd c j l h (cmp j k))) }
   where
-    fwd : (c j : ℕ) → c < 32 → In j (get_or users c 0) ⊎ (In c (get_or cols (at + k) 0) × (j ≡ k)) → (j < k + 1) × In c (get_or cols (at + j) 0)
+    fwd : (c j : ℕ) → c < 32 → In j (get_or users c 0) ⊎ (In c (sets k) × (j ≡ k)) → (j < k + 1) × In c (sets j)
     fwd c j l (inl h) = let (m, x) = (t.each c j l).0 h in (omega arith, x)
-    fwd c j l (inr (x, e)) = (omega arith, subst⁻¹ (λ (i : ℕ). In c (get_or cols (at + i) 0)) e x)
+    fwd c j l (inr (x, e)) = (omega arith, subst⁻¹ (λ (i : ℕ). In c (sets i)) e x)
 
-    bwd : (c j : ℕ) → c < 32 → (j < k + 1) × In c (get_or cols (at + j) 0) → Cmp j k → In j (get_or users c 0) ⊎ (In c (get_or cols (at + k) 0) × (j ≡ k))
+    bwd : (c j : ℕ) → c < 32 → (j < k + 1) × In c (sets j) → Cmp j k → In j (get_or users c 0) ⊎ (In c (sets k) × (j ≡ k))
     bwd c j l h (Cmp.less m) = inl ((t.each c j l).1 (m, h.1))
     bwd c j l h (Cmp.same e) = inr (rw e at h.1, e)
     bwd c j l h (Cmp.more m) = absurd (omega (arith, h.0))
 
-pub turning_all : {cols users : List ℕ} {at : ℕ} → Turning cols at 32 users → Turned cols at users
+pub turning_all : {sets : ℕ → ℕ} {users : List ℕ} → Turning sets 32 users → Turned sets users
 turning_all t = record { each = t.each }

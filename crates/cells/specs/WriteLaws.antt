@@ -15,6 +15,7 @@ use Rattle.theory.proofs.Modes.{in_cond, in_step, in_modes}
 use Rattle.sets.specs.Members.{walk_on, step_none}
 use Rattle.columns.specs.Columns.{op_by, Columns}
 use Rattle.columns.specs.ColumnLaws.{op_there_lem}
+use Rattle.columns.specs.declared.Dated.{Dated}
 use Rattle.cells.specs.Cells.{ends_within, modes_within, words_from, ended_in, last_of, fresh_of}
 
 -- ---- a walk over some operations
@@ -25,7 +26,7 @@ words_at f zero k i j h e = absurd (omega arith)
 words_at f (suc n) k zero j h e = let d : k ≡ j = omega arith in ap f d
 words_at f (suc n) k (suc i) j h e = words_at f n (suc k) i j (omega arith) (omega arith)
 
-module _ (cols : List ℕ) (after by : ℕ) where
+module _ (cols : List Dated) (after by : ℕ) where
   abbrev words : List ℕ
   words = words_from (modes_within cols after by) 0 32
 
@@ -56,7 +57,7 @@ modes_same f g [] h = refl
 modes_same f g (o ∷ os) h = rw (h 0 (omega arith), modes_same f g os (λ i l. h (suc i) (omega arith)))
 
 -- W is the set of the operations that write c
-module _ (T : Table) (ok : Accepted T) {cols : List ℕ} (C : Columns T cols) (c W : ℕ)
+module _ (T : Table) (ok : Accepted T) {cols : List Dated} (C : Columns T cols) (c W : ℕ)
     (here : (k : ℕ) → In k W ↔ ((k < 32) × In c (op_by cols k).writes)) where
   -- the modes in which c is written after one date and by another
   module _ (after by : ℕ) where

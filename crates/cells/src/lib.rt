@@ -2,9 +2,14 @@
 // earlier cycle left there. Everything is asked of lent columns, and only the operations that use the cell are visited.
 #![tactic(auto)]
 
-ghost use Rattle.std.specs.Prelude.{◌≡◌, ◌<◌, ◌≤◌, length};
-ghost use Rattle.columns.specs.Columns.{Short};
+ghost use Rattle.std.specs.Prelude.{ℕ, ◌≡◌, ◌<◌, ◌≤◌, length};
+ghost use Rattle.std.specs.Fn.{FnReturnsAt};
+ghost use Rattle.columns.specs.declared.Dated.{Dated};
+ghost use Rattle.columns.specs.Columns.{dates, Short};
 ghost use Rattle.cells.specs.Cells.{Added, Turned, modes_within, ended_in, last_of, fresh_of, FreshSets, Early};
+
+use columns::Dated;
+use sets::Members;
 
 // ---- who uses each cell
 
@@ -13,25 +18,20 @@ fn add_user(users: &mut [u32; 32], k: u32, cells: u32)
     requires { (k < 32) × (length users.old ≡ 32) }
     ensures { Added users.old k cells users.new }
 {
-    let mut left = cells;
-    while left != 0 {
-        let c = sets::lowest(left);
+    for c in Members(cells) {
         let i = c as usize;
         users[i] = sets::with(users[i], k);
-        left = sets::rest(left, c);
     }
 }
 
-// For each cell the operations that have it in the column from `at` on: 96 for those that read it, 128 for those that write it.
-pub fn turned(cols: &[u32; 224], at: usize) -> [u32; 32]
-    requires { at ≤ 160 }
-    ensures { Turned cols.now at result }
+// For each cell the operations that have it in the set that `of` says: those that read it, by `|o| o.reads`, or those that write it.
+pub fn turned<F: Fn(&Dated) -> u32>(cols: &[Dated; 32], of: F) -> [u32; 32]
+    requires { F.IsAlwaysCallable of }
+    ensures { (sets : Dated → ℕ) → ((d : Dated) (r : ℕ) → FnReturnsAt F.Fn of d r → r ≡ sets d) → Turned (λ k. sets (dates cols.now k)) result }
 {
     let mut users = [0u32; 32];
-    let mut k: usize = 0;
-    while k < 32 {
-        add_user(&mut users, k as u32, cols[at + k]);
-        k += 1;
+    for (k, o) in cols.iter().enumerate() {
+        add_user(&mut users, k as u32, of(o));
     }
     users
 }
@@ -39,7 +39,7 @@ pub fn turned(cols: &[u32; 224], at: usize) -> [u32; 32]
 // ---- the modes in which it is written
 
 // The modes of an operation that ends after one date and by another.
-fn modes_within(cols: &[u32; 224], k: usize, after: u32, by: u32) -> u32
+fn modes_within(cols: &[Dated; 32], k: usize, after: u32, by: u32) -> u32
     requires { (k < 32) × Short cols.now }
     ensures { result ≡ modes_within cols.now after by k }
 {
@@ -54,22 +54,19 @@ fn modes_within(cols: &[u32; 224], k: usize, after: u32, by: u32) -> u32
 }
 
 // The modes of all the operations of a set that do.
-pub fn ended_within(cols: &[u32; 224], ops: u32, after: u32, by: u32) -> u32
+pub fn ended_within(cols: &[Dated; 32], ops: u32, after: u32, by: u32) -> u32
     requires { Short cols.now }
     ensures { result ≡ ended_in cols.now ops after by }
 {
     let mut all: u32 = 0;
-    let mut left = ops;
-    while left != 0 {
-        let k = sets::lowest(left);
-        all = all | modes_within(cols, k as usize, after, by);
-        left = sets::rest(left, k);
+    for k in Members(ops) {
+        all |= modes_within(cols, k as usize, after, by);
     }
     all
 }
 
 // The modes of a writer in which no other ends after it: it is the last to write the cell. No operation ends after tick 1000.
-pub fn last_in(cols: &[u32; 224], writers: u32, i: usize) -> u32
+pub fn last_in(cols: &[Dated; 32], writers: u32, i: usize) -> u32
     requires { (i < 32) × Short cols.now }
     ensures { result ≡ last_of cols.now writers i }
 {
@@ -83,7 +80,7 @@ pub fn last_in(cols: &[u32; 224], writers: u32, i: usize) -> u32
 // ---- the modes in which it is read
 
 // The modes of a reader in which no writer ends by its start: it finds what an earlier cycle left there.
-fn fresh_in(cols: &[u32; 224], writers: u32, j: usize) -> u32
+fn fresh_in(cols: &[Dated; 32], writers: u32, j: usize) -> u32
     requires { (j < 32) × Short cols.now }
     ensures { result ≡ fresh_of cols.now writers j }
 {
@@ -95,34 +92,25 @@ fn fresh_in(cols: &[u32; 224], writers: u32, j: usize) -> u32
 }
 
 // The same for each reader; nobody asks for the set of another operation.
-pub fn fresh_sets(cols: &[u32; 224], writers: u32, readers: u32) -> [u32; 32]
+pub fn fresh_sets(cols: &[Dated; 32], writers: u32, readers: u32) -> [u32; 32]
     requires { Short cols.now }
     ensures { FreshSets cols.now writers readers result }
 {
     let mut out = [0u32; 32];
-    let mut left = readers;
-    while left != 0 {
-        let m = sets::lowest(left);
+    for m in Members(readers) {
         let j = m as usize;
         out[j] = fresh_in(cols, writers, j);
-        left = sets::rest(left, m);
     }
     out
 }
 
 // A tick before which no reader starts: as the walk goes, the start of the first, or 1000 where there is none.
-pub fn earliest(cols: &[u32; 224], readers: u32) -> u32
+pub fn earliest(cols: &[Dated; 32], readers: u32) -> u32
     ensures { Early cols.now readers result }
 {
     let mut early: u32 = 1000;
-    let mut left = readers;
-    while left != 0 {
-        let j = sets::lowest(left);
-        let start = columns::start(cols, j as usize);
-        if start < early {
-            early = start;
-        }
-        left = sets::rest(left, j);
+    for j in Members(readers) {
+        early = early.min(columns::start(cols, j as usize));
     }
     early
 }

@@ -1,45 +1,64 @@
--- A table's operations in columns: what the numbers at the places of a list of columns are of an operation.
+-- A table's operations by their dates: what an entry is of an operation.
 -- Assumes nothing.
-use Rattle.std.specs.Prelude.{ℕ, ◌+◌, ◌-◌, ◌<◌, ◌≤◌, ◌≡◌, List, get_or, set}
-use Rattle.rules.specs.Table.{Op, Table, op, end_of, held_to}
+use Rattle.std.specs.Prelude.{ℕ, ◌-◌, ◌<◌, ◌≤◌, ◌≡◌, List, get_or, set}
+use Rattle.rules.specs.Table.{Op, Table, no_op, op, end_of, held_to}
 use Rattle.table.specs.Tables.{op_of, blank_op}
 use Rattle.table.specs.declared.Op as code
+use Rattle.columns.specs.declared.Dated.{Dated}
 
--- operation i by its columns: start, end, boards, cells read, cells written, modes, and the tick from which it no longer holds its boards; 32 entries
--- each
-abbrev pub op_by : List ℕ → ℕ → Op
-op_by cols i =
+-- the operation that has these dates
+abbrev pub op_dated : Dated → Op
+op_dated d =
     record {
-      start = get_or cols i 0;
-      dur = get_or cols (32 + i) 0 - get_or cols i 0;
-      hold = get_or cols (192 + i) 0 - get_or cols (32 + i) 0;
-      boards = get_or cols (64 + i) 0;
-      reads = get_or cols (96 + i) 0;
-      writes = get_or cols (128 + i) 0;
-      modes = get_or cols (160 + i) 0;
+      start = d.start;
+      dur = d.end - d.start;
+      hold = d.held - d.end;
+      boards = d.boards;
+      reads = d.reads;
+      writes = d.writes;
+      modes = d.modes;
     }
 
+-- the dates of an operation
+abbrev pub dated : Op → Dated
+dated o =
+    record {
+      start = o.start;
+      end = end_of o;
+      held = held_to o;
+      boards = o.boards;
+      reads = o.reads;
+      writes = o.writes;
+      modes = o.modes;
+    }
+
+-- entry i; past the end it is that of no operation
+abbrev pub dates : List Dated → ℕ → Dated
+dates cols i = get_or cols i (dated no_op)
+
+-- operation i by its dates
+abbrev pub op_by : List Dated → ℕ → Op
+op_by cols i = op_dated (dates cols i)
+
 -- with operation k stored
-abbrev pub op_put : List ℕ → ℕ → Op → List ℕ
-op_put cols k o =
-    let numbers = set (set (set (set (set (set cols k o.start) (32 + k) (end_of o)) (64 + k) o.boards) (96 + k) o.reads) (128 + k) o.writes) (160 + k) o.modes in
-    set numbers (192 + k) (held_to o)
+abbrev pub op_put : List Dated → ℕ → Op → List Dated
+op_put cols k o = set cols k (dated o)
 
 -- no operation ends before it starts, or lets go of its boards before it ends
 pub record InOrder (start end leave : ℕ) : Type 0 where
   pub lasts : start ≤ end
   pub settles : end ≤ leave
 
-abbrev pub Settled : List ℕ → Type 0
-Settled cols = (i : ℕ) → i < 32 → InOrder (get_or cols i 0) (get_or cols (32 + i) 0) (get_or cols (192 + i) 0)
+abbrev pub Settled : List Dated → Type 0
+Settled cols = (i : ℕ) → i < 32 → let d = dates cols i in InOrder d.start d.end d.held
 
 -- these are the columns of T; past its operations they hold nothing
-pub record Columns (T : Table) (cols : List ℕ) : Type 0 where
+pub record Columns (T : Table) (cols : List Dated) : Type 0 where
   pub each : (i : ℕ) → i < 32 → op_by cols i ≡ op T i
   pub settled : Settled cols
 
 -- no operation lasts, or holds its boards, past the longest table
-pub record Short (cols : List ℕ) : Type 0 where
+pub record Short (cols : List Dated) : Type 0 where
   pub ends : (i : ℕ) → i < 32 → end_of (op_by cols i) ≤ 1000
   pub leaves : (i : ℕ) → i < 32 → held_to (op_by cols i) ≤ 1000
   pub settled : Settled cols

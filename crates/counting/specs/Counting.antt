@@ -5,13 +5,14 @@ use Rattle.rules.specs.Sets.{has, In}
 use Rattle.rules.specs.Table.{Table, op, end_of}
 use Rattle.rules.specs.Places.{sum, one}
 use Rattle.columns.specs.Columns.{op_by}
+use Rattle.columns.specs.declared.Dated.{Dated}
 
 -- r has the operations of the set that run in mode m
-pub record InMode (cols : List ℕ) (ops m r : ℕ) : Type 0 where
+pub record InMode (cols : List Dated) (ops m r : ℕ) : Type 0 where
   pub exact : (u : ℕ) → In u r ↔ (In u ops × In m (op_by cols u).modes)
 
 -- how many operations of the set end by e
-unfoldable pub ended_of : List ℕ → ℕ → ℕ → ℕ
+unfoldable pub ended_of : List Dated → ℕ → ℕ → ℕ
 unfolding sum one has
 ended_of cols ops e = sum (λ u. one (has ops u && leb (end_of (op_by cols u)) e)) 32
 

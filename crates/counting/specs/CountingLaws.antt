@@ -20,6 +20,7 @@ use Rattle.lives.proofs.Cycles.{ended_in_is}
 use Rattle.sets.specs.Members.{Past, past_none, past_all, rest_within, past_more, in_with}
 use Rattle.columns.specs.Columns.{op_by, Columns}
 use Rattle.columns.specs.ColumnLaws.{op_there_lem}
+use Rattle.columns.specs.declared.Dated.{Dated}
 use Rattle.counting.specs.Counting.{InMode, ended_of, ReadersOf, WritersOf, ReadersIn, WritersIn}
 
 -- ---- the operations of a set that run in a mode
@@ -32,19 +33,19 @@ says_meets s m =
     (λ x. (m, x, (in_single m m).1 refl))
 
 -- those of the operations that were visited
-pub record Picked (cols : List ℕ) (ops m left all : ℕ) : Type 0 where
+pub record Picked (cols : List Dated) (ops m left all : ℕ) : Type 0 where
   pub inside : Within left ops
   pub exact : (u : ℕ) → In u all ↔ (Past ops left u × In m (op_by cols u).modes)
 
-pub picked_none : (cols : List ℕ) (ops m : ℕ) → Picked cols ops m ops 0
+pub picked_none : (cols : List Dated) (ops m : ℕ) → Picked cols ops m ops 0
 picked_none cols ops m =
     record { inside = λ u h. h; exact = λ u. (λ h. absurd (in_none u h), λ h. absurd (past_none ops u h.0)) }
 
-pub picked_all : {cols : List ℕ} {ops m all : ℕ} → Picked cols ops m 0 all → InMode cols ops m all
+pub picked_all : {cols : List Dated} {ops m all : ℕ} → Picked cols ops m 0 all → InMode cols ops m all
 picked_all {cols} {ops} {m} {all} p =
     record { exact = λ u. (λ h. let (x, y) = (p.exact u).0 h in (x.0, y), λ (x, y). (p.exact u).1 (past_all ops u x, y)) }
 
-module _ {cols : List ℕ} {ops m left all : ℕ} (k : ℕ) (here : In k left) (p : Picked cols ops m left all) where
+module _ {cols : List Dated} {ops m left all : ℕ} (k : ℕ) (here : In k left) (p : Picked cols ops m left all) where
   past : (u : ℕ) → Past ops (without left (2 ^ k)) u ↔ (Past ops left u ⊎ (u ≡ k))
   past = past_more ops left k p.inside here
 
@@ -124,7 +125,7 @@ module _ (f : ℕ → Bool) where
 
 -- ---- how many of a set end by a date
 
-module _ (cols : List ℕ) where
+module _ (cols : List Dated) where
   -- operation u is of the set, and ends by e
   abbrev ends_by : ℕ → ℕ → ℕ → Bool
   ends_by s e u = has s u && leb (end_of (op_by cols u)) e
@@ -169,7 +170,7 @@ module _ (cols : List ℕ) where
 
 -- ---- of a table
 
-module _ {T : Table} {cols : List ℕ} {w m v : ℕ} (C : Columns T cols) where
+module _ {T : Table} {cols : List Dated} {w m v : ℕ} (C : Columns T cols) where
   -- the operations of a set that run in a mode, by the table
   by_table : InMode cols w m v → (u : ℕ) → u < 32 → In u v ↔ (In u w × In m (op T u).modes)
   by_table i u h = subst (λ (o : Op). In u v ↔ (In u w × In m o.modes)) (C.each u h) (i.exact u)
@@ -188,7 +189,7 @@ module _ {T : Table} {cols : List ℕ} {w m v : ℕ} (C : Columns T cols) where
 
 module _ (T : Table) (ok : Accepted T) (c m : ℕ) where
   -- the writes of a cell in a mode that end by a date, by the columns
-  pub ended_is : {cols : List ℕ} (v : ℕ) → Columns T cols → WritersIn T c m v → (e : ℕ) → ended_of cols v e ≡ ended_in T c m e
+  pub ended_is : {cols : List Dated} (v : ℕ) → Columns T cols → WritersIn T c m v → (e : ℕ) → ended_of cols v e ≡ ended_in T c m e
   ended_is {cols} v C W e =
       ended_of_is cols v e
       ∙ sum_past (λ u. one (ends_by cols v e u)) (nops T) 32 ok.ops_high (λ u h. one_false ((says_false _ (says_ends cols v e u)).1 (λ x. past u h x.0)))

@@ -1,12 +1,12 @@
 -- Laws of the decider's field and of a decider that is handed over: each outcome, and the table that holds who was named.
 -- Assumes nothing.
-use Rattle.std.specs.Prelude.{ℕ, ◌+◌, ◌*◌, ◌<◌, ◌≤◌, ◌≡◌, refl, List, leb, length}
+use Rattle.std.specs.Prelude.{ℕ, ◌+◌, ◌*◌, ◌<◌, ◌≤◌, ◌≡◌, ◌^◌, refl, List, leb, length, Option, None, Some, IfSome, Ok}
 use Rattle.std.proofs.Common.{sym, ◌∙◌, arith, le-leb, leb-true, lt-ltb, le-ltb}
 use Rattle.std.proofs.Math.Path.{ap}
 use Rattle.std.proofs.lemmas.Bool.{lt-leb}
 use Rattle.rules.specs.Table as rules
 use Rattle.rules.specs.Table.{nobody, decides, nops}
-use Rattle.rules.specs.Verdicts.{accepted, refused, SHORT, ORDER, RANGE, ◌then◌}
+use Rattle.rules.specs.Verdicts.{Verdict, accepted, refused, SHORT, ORDER, RANGE, ◌then◌}
 use Rattle.rules.specs.Bytes.{num8}
 use Rattle.rules.specs.Judge.{ranged, header, field_test, decider_wrong, with_decider, ops_place, ops_end, nothing_due, decider_at, decider_test}
 use Rattle.theory.proofs.Verdicts.{passes, refuses, then_accepts, then_refuses, then_first}
@@ -14,16 +14,16 @@ use Rattle.theory.proofs.Ranges.{ranged_yes, ranged_no}
 use Rattle.theory.proofs.Judging.{both, field_passed, decider_row, nothing_row}
 use Rattle.fields.specs.Verdicts.{refusal_of}
 use Rattle.fields.specs.declared.Refusal.{Refusal}
-use Rattle.fields.specs.Fields.{field_of}
+use Rattle.fields.specs.Fields.{field_of, IsPlace}
 use Rattle.fields.specs.FieldLaws.{field_bad, field_ranged}
 use Rattle.fields.specs.RefusalLaws.{then_refusal}
 use Rattle.widths.specs.WidthLaws.{size_least}
-use Rattle.table.specs.Tables.{who_of, who_in, table_of, table_in}
-use Rattle.table.specs.TableLaws.{nops_count}
-use Rattle.table.specs.declared.Decider.{Decider}
-use Rattle.table.specs.declared.Decider.TheVariants.{Nobody, Decides}
+use Rattle.table.specs.Tables.{JudgedAs, who_of, who_in, table_of, table_in}
+use Rattle.table.specs.JudgedLaws.{granted}
 use Rattle.table.specs.declared.Table.{Table}
 use Rattle.deciders.specs.Deciders.{behind_of, handed_of}
+
+-- ---- where the number is wrong: at the field's number, and the place is no large one
 
 -- ---- nothing is due behind the field
 
@@ -59,12 +59,15 @@ module _ (s : List ℕ) (at n : ℕ) where
     pub test_bad : (r : Refusal) → refusal_of r ≡ field_of s at 5 1 → refusal_of r ≡ decider_test s at n
     test_bad r e = sym (field_on ∙ then_refusal r _ (sym (field_bad s at 5 1 wrong r e)))
 
-    module _ (whole : accepted tt ≡ field_of s at 5 1) {w : ℕ} (same : w ≡ wrong) where
-      pub test_range : (w ≡ 0 → ⊥) → refused RANGE at (at + w) ≡ decider_test s at n
-      test_range not = sym (field_on ∙ then_refuses _ (sym (field_ranged s at 5 1 wrong w whole same) ∙ ranged_no w at not))
+    module _ (whole : accepted tt ≡ field_of s at 5 1) {d : ℕ} (same : d ≡ num8 s (at + 3)) where
+      range_is : ranged (decider_wrong n (decides d)) at ≡ field_test s at 5 1 wrong
+      range_is = field_ranged s at 5 1 wrong _ whole (ap (λ (x : ℕ). decider_wrong n (decides x)) same)
 
-      pub test_fine : w ≡ 0 → nothing_due s (at + 4) ≡ decider_test s at n
-      test_fine none = sym (field_on ∙ then_accepts _ (sym (field_ranged s at 5 1 wrong w whole same) ∙ ranged_yes w at none))
+      pub test_range : (r : Refusal) → refusal_of r ≡ ranged (decider_wrong n (decides d)) at → refusal_of r ≡ decider_test s at n
+      test_range r e = sym (field_on ∙ then_refusal r _ (sym (e ∙ range_is)))
+
+      pub test_fine : accepted tt ≡ ranged (decider_wrong n (decides d)) at → nothing_due s (at + 4) ≡ decider_test s at n
+      test_fine e = sym (field_on ∙ then_accepts _ (sym (e ∙ range_is)))
 
   -- a field that passes is whole
   pub test_whole : decider_test s at n ≡ accepted tt → at < length s → at + 4 ≤ length s
@@ -84,11 +87,11 @@ module _ (s : List ℕ) (at : ℕ) where
 
 -- ---- the table that holds who was named
 
-who_in_lem : (who : Decider) → who ≡ who_in (who_of who)
-who_in_lem Nobody = refl
-who_in_lem (Decides d) = refl
+who_in_lem : (who : Option ℕ) → who ≡ who_in (who_of who)
+who_in_lem None = refl
+who_in_lem (Some d) = refl
 
-pub named_in : (t : Table) (who : Decider) → t ≡ table_in (table_of t)
+pub named_in : (t : Table) (who : Option ℕ) → t ≡ table_in (table_of t)
     → record {
       len = t.len;
       boards = t.boards;
@@ -148,6 +151,11 @@ pub handed_fine : (T : rules.Table) {n : ℕ} → n ≡ nops T → (who : rules.
 unfolding handed_of
 handed_fine T count who e = then_accepts _ (ranged_yes _ (ops_end T) (ap (λ (k : ℕ). decider_wrong k who) (sym count) ∙ e))
 
--- of the code's table
-pub count_is : (t : Table) → t.count ≤ length t.ops → t.count ≡ nops (table_of t)
-count_is t full = sym (nops_count t full)
+-- ---- of the code's table that is zero where nothing counts
+module _ (t : Table) (tidy : t ≡ table_in (table_of t)) where
+  pub count_is : t.count ≡ nops (table_of t)
+  count_is = ap (λ (u : Table). u.count) tidy
+
+  -- with who is named it is the table of a verdict that accepts so
+  pub named_by : {v : Verdict rules.Table} (who : Option ℕ) → v ≡ accepted (with_decider (table_of t) (who_of who)) → JudgedAs v (Ok (record t { decider = who }))
+  named_by who e = granted _ e (named_in t who tidy)

@@ -1,18 +1,15 @@
--- The code's answers are determined by the documents' numbers: no two refusals, verdicts or answers of the code say the same.
+-- The code's answers are determined by the documents' numbers: no two refusals or answers of the code say the same.
 -- Assumes nothing.
 use Prim.Native.Nat.{ℕ, zero, suc}
 use mathlib.Core.Path.{◌≡◌, refl, sym, ap, ◌∙◌}
 use mathlib.Core.List.{List}
-use Rattle.rules.specs.Verdicts.{accepted, refused}
+use Rattle.rules.specs.Verdicts.{Verdict, accepted, refused}
 use Rattle.rules.specs.Answers.{Written}
 use Rattle.theory.proofs.Verdicts.{never_refused}
 use Rattle.fields.specs.declared.Refusal.{Refusal}
 use Rattle.fields.specs.declared.Refusal.TheVariants.{Short, Order, Size, Range, Many, Clash, Race, Room, Ask, Early}
-use Rattle.fields.specs.declared.Verdict.{Verdict}
-use Rattle.fields.specs.declared.Verdict.TheVariants.{Accepted, Refused}
-use Rattle.fields.specs.declared.Answer.{Answer}
-use Rattle.fields.specs.declared.Answer.TheVariants.{Wrote, Denied}
-use Rattle.fields.specs.Verdicts.{refusal_of, tested, answered, leaving}
+use Rattle.std.specs.Prelude.{Result, Ok, Err}
+use Rattle.fields.specs.Verdicts.{refusal_of, answered, leaving}
 
 -- the refusal that has a number, a and b; none has the number 0, nor one above 10
 untold : ℕ → ℕ → ℕ → Refusal
@@ -57,18 +54,18 @@ refusal_one {A} r s e =
     let second : b ≡ d = cc in
     sym y ∙ ap (λ (k : ℕ). untold k a b) number ∙ ap (λ (k : ℕ). untold m k b) first ∙ ap (untold m c) second ∙ w
 
-pub verdict_one : (u v : Verdict) → tested u ≡ tested v → u ≡ v
-verdict_one Accepted Accepted e = refl
-verdict_one Accepted (Refused r) e = no_refusal r e
-verdict_one (Refused r) Accepted e = no_refusal r (sym e)
-verdict_one (Refused r) (Refused s) e = ap Refused (refusal_one r s e)
+-- what was accepted, and x where nothing was
+accepted_or : {A : Type 0} → A → Verdict A → A
+accepted_or x (accepted y) = y
+accepted_or x (refused n a b) = x
 
-answer_one : (x y : Answer) → answered x ≡ answered y → x ≡ y
-answer_one (Wrote n) (Wrote m) e = let same : n ≡ m = cc in ap Wrote same
-answer_one (Wrote n) (Denied r) e = no_refusal r e
-answer_one (Denied r) (Wrote n) e = no_refusal r (sym e)
-answer_one (Denied r) (Denied s) e = ap Denied (refusal_one r s e)
+pub answer_one : {A : Type 0} (x y : Result A Refusal) → answered x ≡ answered y → x ≡ y
+unfolding accepted_or
+answer_one (Ok n) (Ok m) e = ap (λ v. Ok (accepted_or n v)) e
+answer_one (Ok n) (Err r) e = no_refusal r e
+answer_one (Err r) (Ok n) e = no_refusal r (sym e)
+answer_one (Err r) (Err s) e = ap Err (refusal_one r s e)
 
 -- an answer and the buffer that is left with it
-pub leaving_one : (x y : Answer) (end fin : List ℕ) → leaving (answered x) end ≡ leaving (answered y) fin → (x ≡ y) × (end ≡ fin)
+pub leaving_one : (x y : Result ℕ Refusal) (end fin : List ℕ) → leaving (answered x) end ≡ leaving (answered y) fin → (x ≡ y) × (end ≡ fin)
 leaving_one x y end fin e = (answer_one x y (ap (λ (w : Written). w.answer) e), ap (λ (w : Written). w.buffer) e)

@@ -1,18 +1,19 @@
 -- When each test of a field refuses and when it passes, what the rows of tests come to, and repeated fields one after the other.
 -- Assumes nothing.
-use Rattle.std.specs.Prelude.{ℕ, zero, suc, ◌+◌, ◌-◌, ◌<◌, ◌≤◌, ◌≡◌, refl, Bool, true, false, not, List, [], eqb, length}
+use Rattle.std.specs.Prelude.{ℕ, zero, suc, ◌+◌, ◌-◌, ◌^◌, ◌<◌, ◌≤◌, ◌≡◌, refl, Bool, true, false, not, List, [], eqb, length, Option, Some, None, IfSome}
 use Rattle.std.proofs.Math.Path.{sym}
 use Rattle.std.proofs.Common.{ap, ◌∙◌, arith}
 use borrow.Author.Tests.{le-leb, lt-leb, lt-ltb, le-ltb, eq-eqb, ne_eqb, ltb-false, eqb-false}
 use Rattle.rules.specs.Verdicts.{Verdict, accepted, refused, SHORT, ORDER, SIZE, MANY, Test, ◌then◌, onwards, more}
 use Rattle.rules.specs.Bytes.{num8, num16}
 use Rattle.rules.specs.Judge.{needed, header, due, not_many, sized, complete, ranged, field_test, repeat_test, fields_from}
-use Rattle.theory.proofs.Verdicts.{passes, refuses, passed, then_accepts, then_refuses, then_first, then_rest, then_assoc}
+use Rattle.theory.proofs.Verdicts.{never_refused, passes, refuses, passed, then_accepts, then_refuses, then_first, then_rest, then_assoc}
 use Rattle.theory.proofs.Judging.{field_row, repeat_row, fields_end, fields_next}
 use Rattle.fields.specs.declared.Refusal.{Refusal}
 use Rattle.fields.specs.Verdicts.{refusal_of}
 use Rattle.fields.specs.RefusalLaws.{then_refusal}
-use Rattle.fields.specs.Fields.{sized_of, field_of, repeat_of}
+use Rattle.theory.proofs.Ranges.{ranged_no}
+use Rattle.fields.specs.Fields.{sized_of, field_of, repeat_of, IsPlace}
 
 -- a fault that is not there, and one that is
 unequal : (a b : ℕ) → (a ≡ b → ⊥) → not (eqb a b) ≡ true
@@ -168,6 +169,16 @@ module _ (s : List ℕ) (at tag size wrong : ℕ) where
 
   pub repeat_ranged : (left w : ℕ) → accepted tt ≡ repeat_of s at left tag size → w ≡ wrong → ranged w at ≡ repeat_test s at left tag size wrong
   repeat_ranged left w e h = ap (λ (x : ℕ). ranged x at) h ∙ sym (repeat_split s at tag size wrong left ∙ then_accepts _ (sym e))
+
+-- where the range test passes nothing is wrong
+pub ranged_fine : (n at : ℕ) → accepted tt ≡ ranged n at → n ≡ 0
+ranged_fine zero at e = refl
+ranged_fine (suc n) at e = never_refused (sym (ranged_no (suc n) at (λ z. omega arith)) ∙ sym e)
+
+-- the place of the first wrong number is no farther than the rules tell
+pub place_fits : (wrong : Option ℕ) (at n : ℕ) → IsPlace wrong n → at + n < 2 ^ 64 → IfSome wrong (λ w. at + w < 2 ^ 64)
+place_fits None at n is h = tt
+place_fits (Some w) at n is h = omega (arith, is.0)
 
 -- ---- repeated fields, one after the other
 

@@ -1,6 +1,6 @@
 -- The tests of a field without its ranges.
 -- Assumes nothing.
-use Rattle.std.specs.Prelude.{ℕ, List}
+use Rattle.std.specs.Prelude.{ℕ, ◌<◌, ◌≡◌, List, Option, Some, None}
 use Rattle.rules.specs.Verdicts.{Test, ◌then◌}
 use Rattle.rules.specs.Judge.{needed, header, due, not_many, sized, complete}
 
@@ -12,3 +12,8 @@ field_of s at tag size = needed s at then header s at then due s at tag then siz
 
 unfoldable pub repeat_of : List ℕ → ℕ → ℕ → ℕ → ℕ → Test
 repeat_of s at left tag size = header s at then due s at tag then not_many at left then sized_of s at size
+
+-- where in its field the first wrong number begins, as the rules tell it: n, and 0 where none is wrong
+abbrev pub IsPlace : Option ℕ → ℕ → Type 0
+IsPlace None n = 0 ≡ n
+IsPlace (Some w) n = (w ≡ n) × (0 < w)

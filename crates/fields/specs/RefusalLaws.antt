@@ -1,14 +1,13 @@
 -- Laws of the code's refusals: they are the same whatever was to be accepted, and nothing that comes behind them counts.
 -- Assumes nothing.
-use Rattle.std.specs.Prelude.{ℕ, ◌≡◌, refl}
+use Rattle.std.specs.Prelude.{ℕ, ◌≡◌, refl, Result, Ok, Err}
+use Rattle.std.specs.Result.{IsErrAnd}
 use Rattle.std.proofs.Common.{sym, ap, ◌∙◌}
-use Rattle.rules.specs.Verdicts.{Verdict, accepted, refused, Test, ◌then◌, onwards}
+use Rattle.rules.specs.Verdicts.{Verdict, accepted, refused, ◌then◌, onwards}
 use Rattle.theory.proofs.Verdicts.{never_refused, then_refuses, onwards_refuses}
 use Rattle.fields.specs.declared.Refusal.{Refusal}
 use Rattle.fields.specs.declared.Refusal.TheVariants.{Short, Order, Size, Range, Many, Clash, Race, Room, Ask, Early}
-use Rattle.fields.specs.declared.Verdict as code
-use Rattle.fields.specs.declared.Verdict.TheVariants.{Accepted, Refused}
-use Rattle.fields.specs.Verdicts.{refusal_of, tested}
+use Rattle.fields.specs.Verdicts.{refusal_of, answered}
 
 -- a refusal is one whatever was to be accepted
 pub refusal_is : {A B : Type 0} (r : Refusal)
@@ -42,10 +41,15 @@ unfolding onwards
 heard_refusal {A} (accepted x) r e = let (n, a, b, y, z) = refusal_is {A = A} {B = Unit {0}} r in never_refused (sym z ∙ e)
 heard_refusal {A} (refused m c d) r e = sym (refusal_at r e)
 
--- a test of the code that passes, and one that refuses
-module _ {v : code.Verdict} {w : Test} (e : tested v ≡ w) where
-  pub passed_as : v ≡ Accepted → accepted tt ≡ w
-  passed_as h = sym (ap tested h) ∙ e
+-- a value of the code that is handed on, and a refusal
+module _ {A : Type 0} {v : Result A Refusal} {w : Verdict A} (e : answered v ≡ w) where
+  pub passed_as : {x : A} → v ≡ Ok x → accepted x ≡ w
+  passed_as h = sym (ap answered h) ∙ e
 
-  pub refused_as : {r : Refusal} → v ≡ Refused r → refusal_of r ≡ w
-  refused_as h = sym (ap tested h) ∙ e
+  pub refused_as : {r : Refusal} → v ≡ Err r → refusal_of r ≡ w
+  refused_as h = sym (ap answered h) ∙ e
+
+-- where a `?` hands an error on, the error is the same
+pub err_again : {T : Type 0} (r : Result T Refusal) (e : Refusal) → IsErrAnd r (λ y. y ≡ e) → r ≡ Err e
+err_again (Ok x) e h = absurd h
+err_again (Err y) e h = ap Err h

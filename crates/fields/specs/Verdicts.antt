@@ -1,15 +1,11 @@
 -- The code's verdicts in the documents' numbers.
 -- Assumes nothing.
-use Rattle.std.specs.Prelude.{ℕ, List}
+use Rattle.std.specs.Prelude.{ℕ, List, Result, Ok, Err}
 use Rattle.rules.specs.Verdicts.{accepted, refused, SHORT, ORDER, SIZE, RANGE, MANY, CLASH, RACE, ROOM, ASK, EARLY}
 use Rattle.rules.specs.Verdicts as rules
 use Rattle.rules.specs.Answers.{Written}
 use Rattle.fields.specs.declared.Refusal.{Refusal}
 use Rattle.fields.specs.declared.Refusal.TheVariants.{Short, Order, Size, Range, Many, Clash, Race, Room, Ask, Early}
-use Rattle.fields.specs.declared.Answer.{Answer}
-use Rattle.fields.specs.declared.Answer.TheVariants.{Wrote, Denied}
-use Rattle.fields.specs.declared.Verdict.{Verdict}
-use Rattle.fields.specs.declared.Verdict.TheVariants.{Accepted, Refused}
 
 -- the number, a and b of each refusal
 abbrev pub refusal_of : {A : Type 0} → Refusal → rules.Verdict A
@@ -24,19 +20,10 @@ refusal_of (Room n) = refused ROOM n 0
 refusal_of (Ask place) = refused ASK place 0
 refusal_of (Early d i) = refused EARLY d i
 
--- a verdict of the code on x
-abbrev pub verdict_on : {A : Type 0} → Verdict → A → rules.Verdict A
-verdict_on Accepted x = accepted x
-verdict_on (Refused r) x = refusal_of r
-
--- a verdict of the code with nothing to hand on
-abbrev pub tested : Verdict → rules.Test
-tested v = verdict_on v tt
-
--- an answer of the code
-abbrev pub answered : Answer → rules.Verdict ℕ
-answered (Wrote n) = accepted n
-answered (Denied r) = refusal_of r
+-- what the code answers, a value or a refusal, as a verdict
+abbrev pub answered : {A : Type 0} → Result A Refusal → rules.Verdict A
+answered (Ok x) = accepted x
+answered (Err r) = refusal_of r
 
 -- what is answered, and what the buffer holds then
 abbrev pub leaving : rules.Verdict ℕ → List ℕ → Written

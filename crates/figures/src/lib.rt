@@ -9,7 +9,7 @@ ghost use Rattle.figures.specs.Figures.{figures_of};
 use fields::Refusal;
 
 // An answer in numbers: that of the refusal, or 0, and two figures.
-#[derive(Clone, Copy)]
+#[derive(Clone, Copy, Debug, PartialEq, Eq)]
 pub struct Figures {
     pub number: u32,
     pub a: u64,
@@ -27,19 +27,21 @@ pub fn numbered(number: u32, a: usize, b: usize) -> Figures
 }
 
 // A refusal's number, a and b.
-pub fn figures_of(r: Refusal) -> Figures
-    ensures { refusal_of {A = ℕ} r ≡ refused result.number result.a result.b }
-{
-    match r {
-        Refusal::Short(at) => numbered(1, at, 0),
-        Refusal::Order(at) => numbered(2, at, 0),
-        Refusal::Size(at) => numbered(3, at, 0),
-        Refusal::Range(at, place) => numbered(4, at, place),
-        Refusal::Many(at) => numbered(5, at, 0),
-        Refusal::Clash(i, j) => numbered(6, i, j),
-        Refusal::Race(i, j) => numbered(7, i, j),
-        Refusal::Room(n) => numbered(8, n, 0),
-        Refusal::Ask(place) => numbered(9, place, 0),
-        Refusal::Early(d, i) => numbered(10, d, i),
+impl From<Refusal> for Figures {
+    ghost from_gives = { λ r f. refusal_of {A = ℕ} r ≡ refused f.number f.a f.b };
+
+    fn from(r: Refusal) -> Figures {
+        match r {
+            Refusal::Short(at) => numbered(1, at, 0),
+            Refusal::Order(at) => numbered(2, at, 0),
+            Refusal::Size(at) => numbered(3, at, 0),
+            Refusal::Range(at, place) => numbered(4, at, place),
+            Refusal::Many(at) => numbered(5, at, 0),
+            Refusal::Clash(i, j) => numbered(6, i, j),
+            Refusal::Race(i, j) => numbered(7, i, j),
+            Refusal::Room(n) => numbered(8, n, 0),
+            Refusal::Ask(place) => numbered(9, place, 0),
+            Refusal::Early(d, i) => numbered(10, d, i),
+        }
     }
 }

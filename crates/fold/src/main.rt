@@ -2,7 +2,7 @@
 // period and the rows of a table. Words that ask nothing get the list of what can be asked, and nothing is read.
 #![tactic(auto)]
 
-ghost use Rattle.std.specs.Prelude.{◌≡◌, length};
+ghost use Rattle.std.specs.Prelude.{◌≡◌, ◌≤◌, length};
 
 use std::env::{Env, FillError};
 use words::{Question, Word};
@@ -16,7 +16,8 @@ fn room() -> [u8; LONGEST_WORD]
     [0; LONGEST_WORD]
 }
 
-// Word i, counted from the program's own name.
+// Word i, counted from the program's own name. Where there are no words, no room is made for one.
+#[inline(never)]
 fn fetch(rt: &HostRuntime, i: usize) -> Word {
     let mut word = room();
     match rt.arg(i, &mut word) {
@@ -25,56 +26,32 @@ fn fetch(rt: &HostRuntime, i: usize) -> Word {
     }
 }
 
-// The same where there are so many words behind the name; else none, and what stands for it is not looked at.
-fn word(rt: &HostRuntime, i: usize, count: usize) -> Word {
-    if count < i {
-        return Word::Other;
-    }
-    fetch(rt, i)
-}
-
 // Whether the system hands over a word i.
 fn is_there(rt: &HostRuntime, i: usize) -> bool {
     let mut none = [0u8; 0];
     !matches!(rt.arg(i, &mut none), Err(FillError::NotPresent))
 }
 
-// How many words stand behind the program's name.
-fn word_count(rt: &HostRuntime) -> usize {
-    for i in 0..usize::MAX {
+// How many words stand behind the program's name. No question has more than five, so that six say enough.
+fn word_count(rt: &HostRuntime) -> usize
+    ensures { result ≤ 6 }
+{
+    for i in 0..6 {
         if !is_there(rt, i + 1) {
             return i;
         }
     }
-    usize::MAX
+    6
 }
 
-// What no words ask: no room is made for one.
-fn unworded() -> Question {
-    planner::question_of(
-        0,
-        Word::Other,
-        Word::Other,
-        Word::Other,
-        Word::Other,
-        Word::Other,
-    )
-}
-
-// What the words ask. No question has more than five.
+// What the words ask.
 fn question(rt: &HostRuntime) -> Question {
     let n = word_count(rt);
-    if n == 0 {
-        return unworded();
+    let mut words = [Word::Other; 6];
+    for (i, word) in words[..n].iter_mut().enumerate() {
+        *word = fetch(rt, i + 1);
     }
-    planner::question_of(
-        n,
-        word(rt, 1, n),
-        word(rt, 2, n),
-        word(rt, 3, n),
-        word(rt, 4, n),
-        word(rt, 5, n),
-    )
+    planner::question_of(&words[..n])
 }
 
 // What is asked about the bytes on standard input.

@@ -6,7 +6,7 @@ ghost use Rattle.fields.specs.Verdicts.{answered, leaving};
 ghost use Rattle.table.specs.Tables.{table_of, Good};
 ghost use Rattle.folds.specs.Folds.{TableText, TextFor};
 
-use fields::{Answer, Verdict};
+use fields::Refusal;
 use rows::Ticks;
 use table::Table;
 use text::Text;
@@ -24,20 +24,17 @@ fn table_text(t: Table) -> Text
 pub fn text_of(s: &[u8]) -> Text
     ensures { TextFor s.now result }
 {
-    let judged = reading::read(s);
-    let verdict = judged.verdict;
-    match verdict {
-        Verdict::Refused(r) => text::refusal_text(r),
-        Verdict::Accepted => table_text(judged.table),
+    match reading::read(s) {
+        Ok(t) => table_text(t),
+        Err(r) => text::refusal_text(r),
     }
 }
 
 // The same into a lent buffer. On ROOM every byte of it stays.
-pub fn fold(s: &[u8], out: &mut [u8]) -> Answer
+pub fn fold(s: &[u8], out: &mut [u8]) -> Result<usize, Refusal>
     ensures { IsFold s.now out.old (leaving (answered result) out.new) }
 {
-    let t = text_of(s);
-    let n = t.len;
-    let bytes = t.bytes;
-    text::put_text(out, &bytes[..n])
+    let whole = text_of(s);
+    let text = whole.as_bytes();
+    text::put_text(out, text)
 }

@@ -19,6 +19,7 @@ use Rattle.theory.proofs.Values.{values_clear}
 use Rattle.theory.proofs.Gaps.{serves_right, gap_iff, length_serves}
 use Rattle.columns.specs.Columns.{op_by, Columns, Short}
 use Rattle.columns.specs.ColumnLaws.{op_there_lem}
+use Rattle.columns.specs.declared.Dated.{Dated}
 use Rattle.turns.specs.Turns.{TurnsOf}
 use Rattle.laters.specs.Laters.{LaterOf}
 use Rattle.arrivals.specs.Arrivals.{Each}
@@ -30,19 +31,19 @@ use Rattle.gaps.specs.Holders.{ModesOf, LetsGo, HolderFine}
 
 -- ---- the modes side by side
 
-pub modes_more : (cols : List ℕ) (k r : ℕ) (modes : List ℕ) → k < length modes → ModesOf cols k modes → r ≡ (op_by cols k).modes
+pub modes_more : (cols : List Dated) (k r : ℕ) (modes : List ℕ) → k < length modes → ModesOf cols k modes → r ≡ (op_by cols k).modes
     → ModesOf cols (k + 1) (set modes k r)
 modes_more cols k r modes h all here = record { each = filled_more (λ j x. x ≡ (op_by cols j).modes) k r modes h all.each here }
 
 -- ---- one operation that holds boards
 
 -- at 1000 every board is let go in time
-pub holder_late : (F cols : List ℕ) → Short cols → (R i : ℕ) → i < 32 → HolderFine F cols R i 1000
+pub holder_late : (F : List ℕ) (cols : List Dated) → Short cols → (R i : ℕ) → i < 32 → HolderFine F cols R i 1000
 unfolding HolderFine
 holder_late F cols short R i h m j l b e = in_time_late (held_to (op_by cols i)) (op_by cols j).start m 1000 (short.leaves i h)
 
 -- who is not among those that start before i lets go, one cycle of the bound later, asks for nothing more
-module _ (F cols : List ℕ) (R i b later : ℕ) (fits : LaterOf cols i b 32 later) (modes : List ℕ) (all : ModesOf cols 32 modes) where
+module _ (F : List ℕ) (cols : List Dated) (R i b later : ℕ) (fits : LaterOf cols i b 32 later) (modes : List ℕ) (all : ModesOf cols 32 modes) where
   abbrev Turning : ℕ → Type 0
   Turning q = TurnsFine F cols later (λ j. get_or modes j 0) 0 (held_to (op_by cols i)) 0 (bit_and R (op_by cols i).modes) q
 
@@ -71,7 +72,7 @@ module _ (F cols : List ℕ) (R i b later : ℕ) (fits : LaterOf cols i b 32 lat
 
 -- ---- all of them, of a table
 
-module _ (T : Table) (ok : Accepted T) (F : List ℕ) (turns : TurnsOf T F) (cols : List ℕ) (C : Columns T cols) (R : ℕ) where
+module _ (T : Table) (ok : Accepted T) (F : List ℕ) (turns : TurnsOf T F) (cols : List Dated) (C : Columns T cols) (R : ℕ) where
   abbrev pub Holders : ℕ → Type 0
   Holders g = Each (HolderFine F cols R) 32 g
 

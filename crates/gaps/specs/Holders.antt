@@ -6,10 +6,11 @@ use Rattle.rules.specs.Sets.{Share, shares}
 use Rattle.rules.specs.Table.{Op, held_to}
 use Rattle.theory.specs.Tests.{via}
 use Rattle.columns.specs.Columns.{op_by}
+use Rattle.columns.specs.declared.Dated.{Dated}
 use Rattle.raises.specs.Raises.{InTime}
 
 -- the modes of the first k operations
-pub record ModesOf (cols : List ℕ) (k : ℕ) (modes : List ℕ) : Type 0 where
+pub record ModesOf (cols : List Dated) (k : ℕ) (modes : List ℕ) : Type 0 where
   pub each : (j : ℕ) → j < k → get_or modes j 0 ≡ (op_by cols j).modes
 
 -- at the gap g, operation o has let go of its boards when u, which shares one, starts m + 1 gaps later, if a run through the modes R can come
@@ -19,5 +20,5 @@ LetsGo F R m g o u =
     Share o.boards u.boards → shares (via F 0 m (bit_and R o.modes)) u.modes ≡ true → InTime (held_to o) u.start m g
 
 -- so of operation i and every other, itself included, whatever m
-unfoldable pub HolderFine : List ℕ → List ℕ → ℕ → ℕ → ℕ → Type 0
+unfoldable pub HolderFine : List ℕ → List Dated → ℕ → ℕ → ℕ → Type 0
 HolderFine F cols R i g = (m j : ℕ) → j < 32 → LetsGo F R m g (op_by cols i) (op_by cols j)

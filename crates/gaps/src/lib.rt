@@ -10,17 +10,16 @@ ghost use Rattle.arrivals.specs.Arrivals.{Each};
 ghost use Rattle.raises.specs.Raises.{Raised};
 ghost use Rattle.gaps.specs.Holders.{ModesOf, HolderFine};
 
+use columns::Dated;
 use table::Table;
 
 // The modes of each operation, as the search over distances takes them.
-fn modes_of(cols: &[u32; 224]) -> [u32; 32]
+fn modes_of(cols: &[Dated; 32]) -> [u32; 32]
     ensures { ModesOf cols.now 32 result }
 {
     let mut out = [0u32; 32];
-    let mut j: usize = 0;
-    while j < 32 {
-        out[j] = columns::modes(cols, j);
-        j += 1;
+    for (j, modes) in out.iter_mut().enumerate() {
+        *modes = columns::modes(cols, j);
     }
     out
 }
@@ -28,7 +27,7 @@ fn modes_of(cols: &[u32; 224]) -> [u32; 32]
 // The bound, raised until operation i has let go of its boards by the start of each operation that shares one, at every distance. A board is
 // like a value that no cycle hides: who comes to it again at a further distance asks for less.
 fn ask_holder(
-    cols: &[u32; 224],
+    cols: &[Dated; 32],
     follow: &[u32],
     reached: u32,
     modes: &[u32; 32],
@@ -46,21 +45,20 @@ fn ask_holder(
 }
 
 // The bound, raised by every operation.
-fn boards_bound(cols: &[u32; 224], follow: &[u32], reached: u32, bound: u32) -> u32
+fn boards_bound(cols: &[Dated; 32], follow: &[u32], reached: u32, bound: u32) -> u32
     requires { Short cols.now × (1 ≤ bound) × (bound ≤ 1000) }
     ensures { Raised bound (Each (HolderFine follow.now cols.now reached) 32) result }
 {
     let modes = modes_of(cols);
     let mut most = bound;
-    let mut i: usize = 0;
-    while i < 32 {
+    for i in 0..32usize {
         most = ask_holder(cols, follow, reached, &modes, i, most);
-        i += 1;
     }
     most
 }
 
 // The smallest gap that serves.
+// What the searches are lent is made here as in `period`: a helper that hands it back costs 900 bytes more of stack.
 pub fn smallest(t: Table) -> u32
     requires { Good t }
     ensures { IsGap (table_of t) result }

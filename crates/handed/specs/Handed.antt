@@ -1,11 +1,12 @@
 -- A table handed over as numbers: its judgement before CLASH, RACE and EARLY, in the steps in which the code takes it.
 -- Assumes nothing.
-use Rattle.std.specs.Prelude.{ℕ, ◌^◌, ◌<◌, ◌≡◌, List, [], length, get_or}
+use Rattle.std.specs.Prelude.{ℕ, ◌^◌, ◌<◌, ◌≡◌, List, length, get_or}
 use Rattle.rules.specs.Table.{Table}
 use Rattle.rules.specs.Verdicts.{Verdict, ◌then◌, onwards}
 use Rattle.rules.specs.Judge.{Numbers, head_of_numbers, decider_of, numbers_test}
 use Rattle.deciders.specs.Deciders.{handed_of}
 use Rattle.handed_ops.specs.HandedOps.{handed_ops, SmallCounts}
+use Rattle.handed.specs.declared.Numbers as code
 
 -- the numbers, as they are handed over
 abbrev pub numbers : ℕ → ℕ → ℕ → ℕ → ℕ → List ℕ → List ℕ → List ℕ → ℕ → ℕ → Numbers
@@ -23,13 +24,8 @@ numbers len boards cells modes first follow ops holds mark decider =
       decider = decider;
     }
 
--- those up to the operations
-abbrev pub unmarked : ℕ → ℕ → ℕ → ℕ → ℕ → List ℕ → List ℕ → List ℕ → Numbers
-unmarked len boards cells modes first follow ops holds = numbers len boards cells modes first follow ops holds 0 0
-
--- what stands before the operations
-abbrev pub head : ℕ → ℕ → ℕ → ℕ → ℕ → List ℕ → Table
-head len boards cells modes first follow = head_of_numbers (unmarked len boards cells modes first follow [] [])
+abbrev pub numbers_of : code.Numbers → Numbers
+numbers_of n = numbers n.len n.boards n.cells n.modes n.first n.follow.now n.ops.now n.holds.now n.mark n.decider
 
 -- the judgement of the numbers up to the operations
 unfoldable pub numbers_verdict : Numbers → Verdict Table

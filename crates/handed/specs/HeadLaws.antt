@@ -1,14 +1,14 @@
 -- Laws of the numbers before the operations: their tests, the words, and that numbers that pass fit the code's.
 -- Assumes nothing.
-use Rattle.std.specs.Prelude.{ℕ, suc, ◌+◌, ◌^◌, ◌<◌, ◌≤◌, ◌≡◌, true, false, not, List, ◌∷◌, eqb, length}
+use Rattle.std.specs.Prelude.{ℕ, suc, ◌^◌, ◌<◌, ◌≤◌, ◌≡◌, true, false, not, List, ◌∷◌, eqb, length}
 use Rattle.std.proofs.Common.{sym, ap, ◌∙◌, arith, pow_mono, eq-eqb, ne_eqb, eqb-true}
 use Rattle.std.proofs.lemmas.Bool.{not-false}
 use Rattle.rules.specs.Table.{SetOf}
-use Rattle.rules.specs.Verdicts.{accepted, refused, ORDER, SIZE, RANGE, refuse_if, ◌then◌}
+use Rattle.rules.specs.Verdicts.{accepted, refused, ORDER, SIZE, refuse_if, ◌then◌}
 use Rattle.rules.specs.Judge.{Numbers, head_of_numbers, ranged, number, len_wrong, counts_wrong, set_ok, set_ranges, sets_wrong, ops_place, none_left, numbers_test}
 use Rattle.theory.proofs.Verdicts.{passes, refuses, passed, then_accepts, then_refuses, then_first, then_rest}
 use Rattle.theory.proofs.Judging.{says_sets, says_len, says_counts, numbers_row}
-use Rattle.theory.proofs.Ranges.{wrong_here, wrong_later, sets_from, range_passed, ranged_yes, ranged_no}
+use Rattle.theory.proofs.Ranges.{wrong_here, wrong_later, sets_from, range_passed}
 use Rattle.fields.specs.Verdicts.{refusal_of}
 use Rattle.fields.specs.declared.Refusal.{Refusal}
 use Rattle.fields.specs.RefusalLaws.{then_refusal}
@@ -18,22 +18,19 @@ use Rattle.handed.specs.Handed.{numbers_verdict, Small}
 -- ---- what stands before the operations
 
 module _ (N : Numbers) where
-  pub test_len : {wrong : ℕ} → wrong ≡ len_wrong N.len → (wrong ≡ 0 → ⊥) → numbers_test N ≡ refused RANGE 0 wrong
-  test_len {wrong} e n =
-      let place : 0 + wrong ≡ wrong = omega arith in
-      numbers_row N ∙ then_refuses _ (ap (λ (w : ℕ). ranged w 0) (sym e) ∙ ranged_no wrong 0 n ∙ ap (refused RANGE 0) place)
+  pub test_len : (q : Refusal) → refusal_of q ≡ ranged (len_wrong N.len) 0 → refusal_of q ≡ numbers_test N
+  test_len q e = sym (numbers_row N ∙ then_refusal q _ (sym e))
 
-  module _ (e0 : len_wrong N.len ≡ 0) where
-    pub test_counts : {wrong : ℕ} → wrong ≡ counts_wrong N.boards N.cells N.modes → (wrong ≡ 0 → ⊥) → numbers_test N ≡ refused RANGE 5 (5 + wrong)
-    test_counts {wrong} e n =
-        numbers_row N ∙ then_accepts _ (ranged_yes _ 0 e0) ∙ then_refuses _ (ap (λ (w : ℕ). ranged w 5) (sym e) ∙ ranged_no wrong 5 n)
+  module _ (e0 : accepted tt ≡ ranged (len_wrong N.len) 0) where
+    pub test_counts : (q : Refusal) → refusal_of q ≡ ranged (counts_wrong N.boards N.cells N.modes) 5 → refusal_of q ≡ numbers_test N
+    test_counts q e = sym (numbers_row N ∙ then_accepts _ (sym e0) ∙ then_refusal q _ (sym e))
 
-    module _ (e1 : counts_wrong N.boards N.cells N.modes ≡ 0) where
+    module _ (e1 : accepted tt ≡ ranged (counts_wrong N.boards N.cells N.modes) 5) where
       to_size : numbers_test N
           ≡ (refuse_if (not (eqb (length N.follow) N.modes)) SIZE 11 0
           then ranged (sets_wrong N.modes (N.first ∷ N.follow)) 11
           then refuse_if (none_left N.ops N.holds) ORDER (ops_place N.modes) 0)
-      to_size = numbers_row N ∙ then_accepts _ (ranged_yes _ 0 e0) ∙ then_accepts _ (ranged_yes _ 5 e1)
+      to_size = numbers_row N ∙ then_accepts _ (sym e0) ∙ then_accepts _ (sym e1)
 
       pub test_size : (length N.follow ≡ N.modes → ⊥) → numbers_test N ≡ refused SIZE 11 0
       test_size h = to_size ∙ then_refuses _ (refuses _ SIZE 11 0 (ap not (ne_eqb _ _ h)))
@@ -43,17 +40,17 @@ module _ (N : Numbers) where
             ≡ (ranged (sets_wrong N.modes (N.first ∷ N.follow)) 11 then refuse_if (none_left N.ops N.holds) ORDER (ops_place N.modes) 0)
         to_sets = to_size ∙ then_accepts _ (passes _ SIZE 11 0 (ap not (eq-eqb _ _ e2)))
 
-        pub test_sets : {wrong : ℕ} → wrong ≡ sets_wrong N.modes (N.first ∷ N.follow) → (wrong ≡ 0 → ⊥) → numbers_test N ≡ refused RANGE 11 (11 + wrong)
-        test_sets {wrong} e n = to_sets ∙ then_refuses _ (ap (λ (w : ℕ). ranged w 11) (sym e) ∙ ranged_no wrong 11 n)
+        pub test_sets : (q : Refusal) → refusal_of q ≡ ranged (sets_wrong N.modes (N.first ∷ N.follow)) 11 → refusal_of q ≡ numbers_test N
+        test_sets q e = sym (to_sets ∙ then_refusal q _ (sym e))
 
-        module _ (e3 : sets_wrong N.modes (N.first ∷ N.follow) ≡ 0) where
+        module _ (e3 : accepted tt ≡ ranged (sets_wrong N.modes (N.first ∷ N.follow)) 11) where
           pub test_none : none_behind N.ops N.holds 0 ≡ true → numbers_test N ≡ refused ORDER (ops_place N.modes) 0
           unfolding none_behind
-          test_none h = to_sets ∙ then_accepts _ (ranged_yes _ 11 e3) ∙ refuses _ ORDER _ 0 h
+          test_none h = to_sets ∙ then_accepts _ (sym e3) ∙ refuses _ ORDER _ 0 h
 
           pub test_some : none_behind N.ops N.holds 0 ≡ false → numbers_test N ≡ accepted tt
           unfolding none_behind
-          test_some h = to_sets ∙ then_accepts _ (ranged_yes _ 11 e3) ∙ passes _ ORDER _ 0 h
+          test_some h = to_sets ∙ then_accepts _ (sym e3) ∙ passes _ ORDER _ 0 h
 
 -- ---- the sets: the first modes, and then the words, of which word i would begin at 7 + 4·i
 module _ (n first : ℕ) (ws : List ℕ) where
@@ -69,9 +66,9 @@ module _ (n first : ℕ) (ws : List ℕ) where
 fits : {n s : ℕ} → SetOf n s → n ≤ 32 → s < 2 ^ 32
 fits {n} {s} h l = let m : 2 ^ n ≤ 2 ^ 32 = pow_mono l in omega (arith, h.small)
 
-pub counts_small : (boards cells modes : ℕ) → counts_wrong boards cells modes ≡ 0 → SmallCounts boards cells modes
+pub counts_small : (boards cells modes : ℕ) → accepted tt ≡ ranged (counts_wrong boards cells modes) 5 → SmallCounts boards cells modes
 counts_small boards cells modes e =
-    let (b, (c, (d, (f, g)))) = (says_counts boards cells modes).0 e in
+    let (b, (c, (d, (f, g)))) = (says_counts boards cells modes).0 (range_passed _ 5 (sym e)) in
     record { few_boards = omega arith; few_cells = d; few_modes = g }
 
 pub test_small : (N : Numbers) → numbers_test N ≡ accepted tt → Small (head_of_numbers N)
@@ -81,7 +78,7 @@ test_small N e =
     let e2 = then_rest _ _ e1 in
     let e3 = then_rest _ _ e2 in
     let len = (says_len N.len).0 (range_passed _ 0 (then_first _ _ e0).1) in
-    let counts = counts_small N.boards N.cells N.modes (range_passed _ 5 (then_first _ _ e1).1) in
+    let counts = counts_small N.boards N.cells N.modes (sym (then_first _ _ e1).1) in
     let sets = (says_sets N.modes (N.first ∷ N.follow)).0 (range_passed _ 11 (then_first _ _ e3).1) in
     record {
       len = omega arith;

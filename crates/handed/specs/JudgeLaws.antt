@@ -1,19 +1,19 @@
 -- Laws of the whole judgement of numbers: the fields', the decider's, and then that of the whole.
 -- Assumes nothing.
-use Rattle.std.specs.Prelude.{◌≤◌, ◌≡◌, [], length}
-use Rattle.std.proofs.Math.Path.{refl, sym, ap, subst}
+use Rattle.std.specs.Prelude.{◌≤◌, ◌≡◌, [], length, Result}
+use Rattle.std.proofs.Math.Path.{sym, ap, subst}
 use Rattle.std.proofs.Common.{◌∙◌}
-use Rattle.rules.specs.Table.{Table, nops}
+use Rattle.rules.specs.Table.{Decider, Table, nops}
 use Rattle.rules.specs.Verdicts.{Verdict, accepted, onwards}
 use Rattle.rules.specs.Judge.{ranged, decider_wrong, Numbers, head_of_numbers, decider_of, with_ops, with_decider, ops_place, ops_end, ops_of_numbers, numbers_test, judge_decider, judge_numbers, judge_whole}
 use Rattle.theory.proofs.Verdicts.{then_first, then_rest, then_onwards, onwards_first, onwards_onwards, onwards_then, onwards_same}
 use Rattle.theory.proofs.Ranges.{range_passed}
 use Rattle.theory.proofs.Judging.{says_decider, judge_numbers_row, judge_decider_row}
+use Rattle.fields.specs.declared.Refusal.{Refusal}
 use Rattle.table.specs.Tables.{JudgedAs, going_on, Tidy, table_of, table_in}
 use Rattle.table.specs.TableLaws.{table_back}
 use Rattle.table.specs.JudgedLaws.{judged_tidy, going_by}
 use Rattle.table.specs.declared.Table as code
-use Rattle.table.specs.declared.Judged.{Judged}
 use Rattle.deciders.specs.Deciders.{handed_of}
 use Rattle.handed_ops.specs.HandedOps.{handed_ops, SmallCounts, Bare}
 use Rattle.whole.specs.Whole.{whole_on, Ready}
@@ -21,27 +21,7 @@ use Rattle.whole.specs.WholeLaws.{Fit, ready_by, whole_by}
 use Rattle.handed.specs.Handed.{numbers_verdict, whole_verdict, Small}
 use Rattle.handed.specs.HeadLaws.{test_small}
 
--- the numbers without mark and decider: up to the operations they are judged alike
-abbrev pub without : Numbers → Numbers
-without N =
-    record {
-      len = N.len;
-      boards = N.boards;
-      cells = N.cells;
-      modes = N.modes;
-      first = N.first;
-      follow = N.follow;
-      ops = N.ops;
-      holds = N.holds;
-      mark = 0;
-      decider = 0;
-    }
-
 module _ (N : Numbers) where
-  without_same : numbers_verdict (without N) ≡ numbers_verdict N
-  unfolding numbers_verdict numbers_test
-  without_same = refl
-
   -- a table that is accepted up to the operations has as many words as modes, and no more modes than there may be
   numbers_words : (T : Table) → numbers_verdict N ≡ accepted T → (length T.follow ≡ T.modes) × (T.modes ≤ 32)
   unfolding numbers_verdict handed_ops
@@ -52,12 +32,19 @@ module _ (N : Numbers) where
       rw (← here) (small.words, small.counts.few_modes)
 
   -- what the code makes of that verdict goes on as it does
-  pub numbers_tidy : {r : Judged} → JudgedAs (numbers_verdict (without N)) r → Tidy r
-  numbers_tidy j = judged_tidy j (λ T e. (numbers_words T (sym without_same ∙ e)).0)
+  pub numbers_tidy : {r : Result code.Table Refusal} → JudgedAs (numbers_verdict N) r → Tidy r
+  numbers_tidy j = judged_tidy (λ T e. (numbers_words T e).0) j
 
-  pub numbers_behind : {r : Judged} → JudgedAs (numbers_verdict (without N)) r → going_on r (handed_of (decider_of N)) ≡ whole_verdict N
+  pub numbers_behind : (r : Result code.Table Refusal) → JudgedAs (numbers_verdict N) r → going_on r (handed_of (decider_of N)) ≡ whole_verdict N
   unfolding whole_verdict
-  numbers_behind j = going_by j (λ T e. (numbers_words T (sym without_same ∙ e)).0) (handed_of (decider_of N)) ∙ ap (λ (v : Verdict Table). onwards v (handed_of (decider_of N))) without_same
+  numbers_behind r j = going_by (λ T e. (numbers_words T e).0) (handed_of (decider_of N)) r j
+
+  -- so with who decides
+  pub numbers_judged : {who : Decider} (r h : Result code.Table Refusal) → who ≡ decider_of N → JudgedAs (numbers_verdict N) r → JudgedAs (going_on r (handed_of who)) h
+      → JudgedAs (whole_verdict N) h
+  numbers_judged {who} r h is j e =
+      let behind = ap (λ (d : Decider). going_on r (handed_of d)) is ∙ numbers_behind r j in
+      subst (λ (v : Verdict Table). JudgedAs v h) behind e
 
   -- a table that all numbers accept
   handed_fit : (T U : Table) → length T.follow ≡ T.modes → T.modes ≤ 32 → handed_of (decider_of N) T ≡ accepted U → Fit U
@@ -92,11 +79,11 @@ module _ (N : Numbers) where
       ∙ sym (onwards_onwards _ (handed_of (decider_of N)) judge_whole)
 
   -- what the code makes of that verdict is the judge's
-  pub whole_ready : {r : Judged} → JudgedAs (whole_verdict N) r → Ready r
+  pub whole_ready : {r : Result code.Table Refusal} → JudgedAs (whole_verdict N) r → Ready r
   whole_ready j = ready_by j whole_fit
 
-  pub numbers_whole : {r : Judged} → JudgedAs (whole_verdict N) r → judge_numbers N ≡ whole_on r
-  numbers_whole j = numbers_pairs ∙ sym (whole_by j whole_fit)
+  pub numbers_whole : (r : Result code.Table Refusal) → JudgedAs (whole_verdict N) r → judge_numbers N ≡ whole_on r
+  numbers_whole r j = numbers_pairs ∙ sym (whole_by r j whole_fit)
 
 -- ---- the table before the operations, as the code holds it
 module _ (H : Table) {t : code.Table} (e : t ≡ table_in (with_ops H [])) (small : Small H) where

@@ -2,66 +2,63 @@
 #![tactic(auto)]
 
 ghost use Rattle.std.specs.Prelude.{◌≡◌, ◌≤◌, ◌∷◌, length};
-ghost use Rattle.rules.specs.Judge.{numbers_test, sets_wrong, judge_numbers};
-ghost use Rattle.fields.specs.Verdicts.{tested};
+ghost use Rattle.rules.specs.Judge.{head_of_numbers, numbers_test, sets_wrong, judge_numbers};
+ghost use Rattle.fields.specs.Verdicts.{answered};
+ghost use Rattle.fields.specs.Fields.{IsPlace};
 ghost use Rattle.table.specs.Tables.{JudgedAs, padded, table_in};
-ghost use Rattle.handed.specs.Handed.{numbers, unmarked, head, numbers_verdict, SmallWords, Small};
+ghost use Rattle.handed.specs.Handed.{numbers_of, numbers_verdict, SmallWords, Small};
 
-use fields::{Refusal, Verdict};
-use table::{Decider, Judged, Table};
+use fields::Refusal;
+use table::Table;
+
+// A table as it is handed over: the followers of each mode, six numbers for each operation, and for each a mark and a hold; the decider counts where its
+// mark is not 0.
+#[derive(Clone, Copy)]
+pub struct Numbers<'a> {
+    pub len: u64,
+    pub boards: u64,
+    pub cells: u64,
+    pub modes: u64,
+    pub first: u64,
+    pub follow: &'a [u64],
+    pub ops: &'a [u64],
+    pub holds: &'a [u64],
+    pub mark: u64,
+    pub decider: u64,
+}
 
 // ---- what stands before the operations
 
-// Which set is wrong first of the first modes and the words: where it would begin in the field, or 0 where each is a set of modes, not empty.
-fn sets_wrong(modes: u32, first: u64, follow: &[u64]) -> usize
+// Which set is wrong first of the first modes and the words, if one is no set of modes or empty: where it would begin in the field.
+fn sets_wrong(modes: u32, first: u64, follow: &[u64]) -> Option<usize>
     requires { (modes ≤ 32) × (length follow.now ≤ 32) }
-    ensures { result ≡ sets_wrong modes (first ∷ follow.now) }
+    ensures { IsPlace result (sets_wrong modes (first ∷ follow.now)) }
 {
     if !sets::is_set_of(modes, first) {
-        return 3;
+        return Some(3);
     }
-    let mut m: usize = 0;
-    while m < follow.len() {
+    for m in 0..follow.len() {
         if !sets::is_set_of(modes, follow[m]) {
-            return 7 + 4 * m;
+            return Some(7 + 4 * m);
         }
-        m += 1;
     }
-    0
+    None
 }
 
 // The tests of the numbers before the operations, and that there are operations.
-fn head_test(
-    p: u64,
-    boards: u64,
-    cells: u64,
-    modes: u64,
-    first: u64,
-    follow: &[u64],
-    ops: &[u64],
-    holds: &[u64],
-) -> Verdict
-    ensures { tested result ≡ numbers_test (unmarked p boards cells modes first follow.now ops.now holds.now) }
+fn head_test(n: Numbers) -> Result<(), Refusal>
+    ensures { answered result ≡ numbers_test (numbers_of n.entry) }
 {
-    let len = ranges::len_wrong(p);
-    if len != 0 {
-        return Verdict::Refused(Refusal::Range(0, len));
+    fields::range_test(ranges::len_wrong(n.len), 0)?;
+    fields::range_test(ranges::counts_wrong(n.boards, n.cells, n.modes), 5)?;
+    if n.follow.len() != n.modes as usize {
+        return Err(Refusal::Size(11));
     }
-    let counts = ranges::counts_wrong(boards, cells, modes);
-    if counts != 0 {
-        return Verdict::Refused(Refusal::Range(5, 5 + counts));
+    fields::range_test(sets_wrong(n.modes as u32, n.first, n.follow), 11)?;
+    if handed_ops::none_left(n.ops, n.holds, 0) {
+        return Err(Refusal::Order(table::ops_place(n.modes as u32)));
     }
-    if follow.len() != modes as usize {
-        return Verdict::Refused(Refusal::Size(11));
-    }
-    let sets = sets_wrong(modes as u32, first, follow);
-    if sets != 0 {
-        return Verdict::Refused(Refusal::Range(11, 11 + sets));
-    }
-    if handed_ops::none_left(ops, holds, 0) {
-        return Verdict::Refused(Refusal::Order(table::ops_place(modes as u32)));
-    }
-    Verdict::Accepted
+    Ok(())
 }
 
 // The words as the table has them, zero behind them.
@@ -70,74 +67,40 @@ fn words_of(follow: &[u64]) -> [u32; 32]
     ensures { result ≡ padded 32 0 follow.now }
 {
     let mut words = [0u32; 32];
-    let mut i: usize = 0;
-    while i < follow.len() {
-        words[i] = follow[i] as u32;
-        i += 1;
+    for (i, word) in follow.iter().enumerate() {
+        words[i] = *word as u32;
     }
     words
 }
 
 // The table with no operations.
-fn head_of(p: u64, boards: u64, cells: u64, modes: u64, first: u64, follow: &[u64]) -> Table
-    requires { Small (head p boards cells modes first follow.now) }
-    ensures { result ≡ table_in (head p boards cells modes first follow.now) }
+fn head_of(n: Numbers) -> Table
+    requires { Small (head_of_numbers (numbers_of n)) }
+    ensures { result ≡ table_in (head_of_numbers (numbers_of n.entry)) }
 {
-    let words = words_of(follow);
-    let none = table::empty();
-    let ops = none.ops;
     Table {
-        len: p as u32,
-        boards: boards as u32,
-        cells: cells as u32,
-        modes: modes as u32,
-        first: first as u32,
-        follow: words,
-        ops,
-        count: 0,
-        decider: Decider::Nobody,
+        len: n.len as u32,
+        boards: n.boards as u32,
+        cells: n.cells as u32,
+        modes: n.modes as u32,
+        first: n.first as u32,
+        follow: words_of(n.follow),
+        ..table::empty()
     }
 }
 
 // The judgement up to the operations.
-fn judge_fields(
-    p: u64,
-    boards: u64,
-    cells: u64,
-    modes: u64,
-    first: u64,
-    follow: &[u64],
-    ops: &[u64],
-    holds: &[u64],
-) -> Judged
-    ensures { JudgedAs (numbers_verdict (unmarked p boards cells modes first follow.now ops.now holds.now)) result }
+fn judge_fields(n: Numbers) -> Result<Table, Refusal>
+    ensures { JudgedAs (numbers_verdict (numbers_of n.entry)) result }
 {
-    let v = head_test(p, boards, cells, modes, first, follow, ops, holds);
-    match v {
-        Verdict::Refused(q) => table::deny(q),
-        Verdict::Accepted => handed_ops::take_ops(
-            head_of(p, boards, cells, modes, first, follow),
-            ops,
-            holds,
-        ),
-    }
+    head_test(n)?;
+    handed_ops::take_ops(head_of(n), n.ops, n.holds)
 }
 
 // The whole judgement.
-pub fn judge(
-    p: u64,
-    boards: u64,
-    cells: u64,
-    modes: u64,
-    first: u64,
-    follow: &[u64],
-    ops: &[u64],
-    holds: &[u64],
-    mark: u64,
-    decider: u64,
-) -> Judged
-    ensures { JudgedAs (judge_numbers (numbers p boards cells modes first follow.now ops.now holds.now mark decider)) result }
+pub fn judge(n: Numbers) -> Result<Table, Refusal>
+    ensures { JudgedAs (judge_numbers (numbers_of n.entry)) result }
 {
-    let fields = judge_fields(p, boards, cells, modes, first, follow, ops, holds);
-    whole::judge(deciders::hand(fields, mark, decider))
+    let decider = deciders::marked(n.mark, n.decider);
+    whole::judge(deciders::hand(judge_fields(n), decider))
 }

@@ -1,11 +1,14 @@
 -- The operations of a table handed over as numbers: their tests, one after the other, and the verdict on all.
 -- Assumes nothing.
-use Rattle.std.specs.Prelude.{ℕ, ◌-◌, ◌*◌, ◌≤◌, ◌≡◌, Bool, ◌||◌, List, [], ◌++◌, ltb, length, drop}
+use Rattle.std.specs.Prelude.{ℕ, ◌-◌, ◌*◌, ◌≤◌, ◌≡◌, Bool, ◌||◌, List, [], ◌++◌, ltb, length, drop, Result, Ok, Err}
 use Rattle.rules.specs.Table.{Op, Table}
 use Rattle.rules.specs.Verdicts.{Verdict, accepted, SHORT, Test, refuse_if, ◌then◌, onwards}
 use Rattle.rules.specs.Judge.{not_many, ranged, op_wrong, with_ops, ops_place, marked_of, op_of_numbers, none_left, ops_of_numbers}
-use Rattle.table.specs.Tables.{table_of, table_in}
+use Rattle.fields.specs.Verdicts.{refusal_of}
+use Rattle.fields.specs.declared.Refusal.{Refusal}
+use Rattle.table.specs.Tables.{op_in, table_of, table_in}
 use Rattle.ranges.specs.Ranges.{counted}
+use Rattle.table.specs.declared.Op as ops
 use Rattle.table.specs.declared.Table as code
 
 -- the numbers behind k operations: six for each, and a mark and a hold
@@ -36,13 +39,14 @@ op_test T ns hs left at =
 unfoldable pub test_there : Table → List ℕ → List ℕ → ℕ → ℕ → Test
 test_there T ns hs k at = op_test T (ops_past k ns) (holds_past k hs) (32 - k) at
 
--- the length and the counts of the code's table
-abbrev pub counts_of : code.Table → Table
-counts_of t = counted t.len t.boards t.cells t.modes
+-- what the code tells of it: the operation itself when it passes them, or the refusal
+abbrev pub Told : Table → List ℕ → List ℕ → ℕ → ℕ → Result ops.Op Refusal → Type 0
+Told T ns hs k at (Ok o) = (test_there T ns hs k at ≡ accepted tt) × (o ≡ op_in (op_there ns hs k))
+Told T ns hs k at (Err q) = refusal_of q ≡ test_there T ns hs k at
 
--- the tests of one operation that would come behind those of the code's table
-abbrev pub next_test : code.Table → List ℕ → List ℕ → ℕ → Test
-next_test t ns hs place = test_there (counts_of t) ns hs t.count place
+-- the length and the counts of a table
+abbrev pub counts_of : Table → Table
+counts_of T = counted T.len T.boards T.cells T.modes
 
 -- the verdict on the operations that come behind those of os, of which the next would be written at a place
 unfoldable pub ops_behind : Table → List Op → List ℕ → List ℕ → ℕ → Verdict Table

@@ -1,12 +1,13 @@
 -- Laws of the operations' numbers: one operation, one after the other, and the loop over them.
 -- Assumes nothing.
-use Rattle.std.specs.Prelude.{ℕ, zero, suc, ◌+◌, ◌*◌, ◌-◌, ◌<◌, ◌≤◌, ◌≡◌, Bool, true, false, not, cond, ◌||◌, List, [], ◌∷◌, ◌++◌, ◌⊎◌, eqb, leb, ltb, get_or, drop}
+use Rattle.std.specs.Prelude.{ℕ, zero, suc, ◌+◌, ◌*◌, ◌-◌, ◌<◌, ◌≤◌, ◌≡◌, Bool, true, false, not, cond, ◌||◌, List, [], ◌∷◌, ◌++◌, ◌⊎◌, ◌^◌, Option, None, Some, IfSome, is_some, unwrap_or, Ok, eqb, leb, ltb, get_or, drop}
 use Rattle.std.proofs.Math.Path.{refl, ap}
 use Rattle.std.proofs.Common.{sym, ◌∙◌, append_assoc, append-nil, inl, inr, add-zero, arith, length-drop, get_or-drop}
 use Rattle.std.proofs.Math.Dec.{eqb-suc-zero}
 use Rattle.std.proofs.Math.ListN.{length, length-append}
 use Rattle.std.proofs.Math.Seq.{drop-drop}
 use borrow.Author.Tests.{le-ltb, eq-eqb, ne_eqb, eqb-false, leb-true, leb-false}
+use Rattle.std.specs.Bool.{then_some}
 use Rattle.rules.specs.Table.{Op, Table}
 use Rattle.rules.specs.Verdicts.{Verdict, accepted, refused, SHORT, MANY, refuse_if, ◌then◌, onwards, more}
 use Rattle.rules.specs.Bytes.{op_size}
@@ -17,17 +18,18 @@ use Rattle.theory.proofs.Verdicts.{passes, refuses, passed, then_accepts, then_r
 use Rattle.theory.proofs.Ranges.{range_passed}
 use Rattle.theory.proofs.Judging.{own_form, plain_handed, size_none, size_most, numbers_full}
 use Rattle.fields.specs.Verdicts.{refusal_of}
+use Rattle.fields.specs.Fields.{IsPlace}
 use Rattle.fields.specs.declared.Refusal.{Refusal}
-use Rattle.fields.specs.declared.Verdict.TheVariants.{Accepted}
 use Rattle.fields.specs.RefusalLaws.{refusal_is}
 use Rattle.table.specs.Tables.{JudgedAs, table_in, op_in, with_op}
 use Rattle.table.specs.TableLaws.{with_op_in}
 use Rattle.table.specs.JudgedLaws.{granted}
 use Rattle.table.specs.declared.Table as code
 use Rattle.widths.specs.WidthLaws.{size_snoc}
-use Rattle.ranges.specs.Ranges.{counted}
+use Rattle.ranges.specs.declared.Wide.{Wide}
+use Rattle.ranges.specs.Ranges.{wide_of}
 use Rattle.ranges.specs.RangeLaws.{wrong_counted}
-use Rattle.handed_ops.specs.HandedOps.{ops_past, holds_past, none_behind, mark_there, op_there, op_test, test_there, next_test, ops_behind, handed_ops, SmallCounts}
+use Rattle.handed_ops.specs.HandedOps.{ops_past, holds_past, none_behind, mark_there, op_there, op_test, test_there, counts_of, ops_behind, handed_ops, SmallCounts}
 
 -- ---- one operation
 
@@ -36,11 +38,24 @@ pub mark_read : (hs : List ℕ) (k : ℕ) → not (eqb (get_or hs (2 * k) 0) 0) 
 unfolding mark_there
 mark_read hs k = rw (get_or-drop (2 * k) hs 0 0, add-zero)
 
-pub op_read : (ns hs : List ℕ) (k : ℕ) {held : Bool} {hold : ℕ} → held ≡ mark_there hs k → hold ≡ cond held (get_or hs (2 * k + 1) 0) 0
+-- a number that stands beside a mark
+held_is : (held : Bool) (hold : ℕ) → is_some (then_some held hold) ≡ held
+held_is true hold = refl
+held_is false hold = refl
+
+hold_is : (held : Bool) (hold : ℕ) → unwrap_or (then_some held hold) 0 ≡ cond held hold 0
+hold_is true hold = refl
+hold_is false hold = refl
+
+pub held_read : (hs : List ℕ) (k : ℕ) {hold : Option ℕ} → hold ≡ then_some (not (eqb (get_or hs (2 * k) 0) 0)) (get_or hs (2 * k + 1) 0)
+    → is_some hold ≡ mark_there hs k
+held_read hs k e = ap (λ (h : Option ℕ). is_some h) e ∙ held_is _ (get_or hs (2 * k + 1) 0) ∙ mark_read hs k
+
+pub op_read : (ns hs : List ℕ) (k : ℕ) {hold : Option ℕ} → hold ≡ then_some (not (eqb (get_or hs (2 * k) 0) 0)) (get_or hs (2 * k + 1) 0)
     → record {
       start = get_or ns (6 * k) 0;
       dur = get_or ns (6 * k + 1) 0;
-      hold = hold;
+      hold = unwrap_or hold 0;
       boards = get_or ns (6 * k + 2) 0;
       reads = get_or ns (6 * k + 3) 0;
       writes = get_or ns (6 * k + 4) 0;
@@ -48,8 +63,8 @@ pub op_read : (ns hs : List ℕ) (k : ℕ) {held : Bool} {hold : ℕ} → held �
     }
     ≡ op_there ns hs k
 unfolding op_there mark_there
-op_read ns hs k e f =
-    let h = f ∙ ap (λ (b : Bool). cond b (get_or hs (2 * k + 1) 0) 0) e in
+op_read ns hs k e =
+    let h = ap (λ (h : Option ℕ). unwrap_or h 0) e ∙ hold_is (not (eqb (get_or hs (2 * k) 0) 0)) (get_or hs (2 * k + 1) 0) ∙ ap (λ (b : Bool). cond b (get_or hs (2 * k + 1) 0) 0) (mark_read hs k) in
     rw (
       h,
       get_or-drop (2 * k) hs 1 0,
@@ -118,6 +133,11 @@ module _ (T : Table) (ns hs : List ℕ) (k at : ℕ) where
         let neither : ltb (length (holds_past k hs)) 2 ≡ false = le-ltb (length (holds_past k hs)) 2 (omega (arith, length-drop (2 * k) hs)) in
         to_short ∙ then_accepts _ (passes _ SHORT at 0 (rw (none, neither)))
 
+    -- of the numbers as they were read
+    pub op_ranged : (w : Wide) → (wide_of w ≡ op_there ns hs k) × (is_some w.hold ≡ mark_there hs k) → 6 * k + 6 ≤ length ns → 2 * k + 2 ≤ length hs
+        → ranged (op_wrong T (is_some w.hold) (wide_of w)) at ≡ test_there T ns hs k at
+    op_ranged w e six two = rw (e.0, e.1) (sym (op_whole six two))
+
 -- an operation that passes: there is a place for it behind k others, its numbers are there, and they are in their ranges
 pub record Ready (T : Table) (ns hs : List ℕ) (k : ℕ) : Type 0 where
   pub some : k < 32
@@ -142,12 +162,15 @@ op_ready T ns hs k place e =
       ranges = range_passed _ place (then_rest _ _ rest);
     }
 
+pub op_room : (T : Table) (ns hs : List ℕ) (k place : ℕ) → test_there T ns hs k place ≡ accepted tt → k < 32
+op_room T ns hs k place e = (op_ready T ns hs k place e).some
+
 -- it has the form that it is written in
 pub ready_width : {T : Table} {ns hs : List ℕ} {k : ℕ} → Ready T ns hs k → 3 + op_size (mark_there hs k) ≡ op_width (op_there ns hs k)
 ready_width {T} {ns} {hs} {k} x = ap (λ (b : Bool). 3 + op_size b) (own_form T (mark_there hs k) (op_there ns hs k) (op_plain ns hs k) x.ranges)
 
 -- of a table only its length and its counts say what is wrong
-test_counted : (H : Table) (ns hs : List ℕ) (k at : ℕ) → test_there (counted H.len H.boards H.cells H.modes) ns hs k at ≡ test_there H ns hs k at
+test_counted : (H : Table) (ns hs : List ℕ) (k at : ℕ) → test_there (counts_of H) ns hs k at ≡ test_there H ns hs k at
 unfolding test_there op_test
 test_counted H ns hs k at = rw (wrong_counted H (marked_of (holds_past k hs)) (op_of_numbers (ops_past k ns) (holds_past k hs)))
 
@@ -216,6 +239,9 @@ module _ (H : Table) (ns hs : List ℕ) where
   taken_none e = record { ops = []; held = e; few = omega arith; here = omega (arith, size_none); rest = refl }
 
   module _ {t : code.Table} {place : ℕ} (k : Taken H ns hs t place) where
+    pub taken_few : t.count ≤ 32
+    taken_few = rw k.held k.few
+
     pub taken_small : SmallCounts H.boards H.cells H.modes → (t.count ≤ 32) × SmallCounts t.boards t.cells t.modes
     taken_small h = rw k.held (k.few, h)
 
@@ -226,23 +252,23 @@ module _ (H : Table) (ns hs : List ℕ) where
     taken_count : t.count ≡ length k.ops
     taken_count = ap (λ (v : code.Table). v.count) k.held
 
-    -- the tests go by the length and the counts of t, which are those of H
-    taken_test : next_test t ns hs place ≡ test_there H ns hs (length k.ops) place
-    taken_test = ap (λ (v : code.Table). next_test v ns hs place) k.held ∙ test_counted H ns hs (length k.ops) place
+    -- the tests go by the length and the counts alone
+    taken_test : test_there (counts_of H) ns hs t.count place ≡ test_there H ns hs (length k.ops) place
+    taken_test = ap (λ (n : ℕ). test_there (counts_of H) ns hs n place) taken_count ∙ test_counted H ns hs (length k.ops) place
 
     taken_on : {r : Bool} → r ≡ none_behind ns hs t.count → none_behind ns hs (length k.ops) ≡ r
     taken_on e = ap (none_behind ns hs) (sym taken_count) ∙ sym e
 
-    pub taken_end : none_behind ns hs t.count ≡ true → JudgedAs (handed_ops H ns hs) (record { verdict = Accepted; table = t })
+    pub taken_end : none_behind ns hs t.count ≡ true → JudgedAs (handed_ops H ns hs) (Ok t)
     taken_end h = granted (with_ops H k.ops) (k.rest ∙ behind_end H k.ops ns hs place (taken_on (sym h))) k.held
 
     module _ (on : none_behind ns hs t.count ≡ false) where
-      pub taken_bad : (q : Refusal) → refusal_of q ≡ next_test t ns hs place → handed_ops H ns hs ≡ refusal_of q
+      pub taken_bad : (q : Refusal) → refusal_of q ≡ test_there (counts_of H) ns hs t.count place → handed_ops H ns hs ≡ refusal_of q
       taken_bad q e =
           let (n, a, b, x, y) = refusal_is {A = Unit {0}} {B = Table} q in
           k.rest ∙ behind_bad H k.ops ns hs place (taken_on (sym on)) (sym (e ∙ taken_test) ∙ x) ∙ sym y
 
-      pub taken_more : {u : code.Table} {width : ℕ} → next_test t ns hs place ≡ accepted tt
+      pub taken_more : {u : code.Table} {width : ℕ} → test_there (counts_of H) ns hs t.count place ≡ accepted tt
           → u ≡ with_op t (op_in (op_there ns hs t.count)) → width ≡ op_width (op_there ns hs t.count) → Taken H ns hs u (place + width)
       taken_more {u} {width} e f w =
           let os = k.ops in

@@ -1,14 +1,23 @@
 -- The head's tests, one after the other, and what is known of a head that passes.
 -- Assumes nothing.
-use Rattle.std.specs.Prelude.{ℕ, ◌<◌, ◌≤◌, ◌≡◌, List, length}
-use Rattle.std.proofs.Common.{sym, ◌∙◌, arith}
-use Rattle.rules.specs.Verdicts.{accepted, ◌then◌}
+use Rattle.std.specs.Prelude.{ℕ, ◌+◌, ◌^◌, ◌<◌, ◌≤◌, ◌≡◌, List, length, Option, Some, None, IfSome, Result, Ok, Err}
+use Rattle.std.specs.Result.{IsErrAnd}
+use Rattle.std.proofs.Common.{sym, ap, ◌∙◌, arith}
+use Rattle.rules.specs.Verdicts.{Verdict, accepted, ◌then◌}
 use Rattle.rules.specs.Bytes.{num8}
 use Rattle.rules.specs.Judge.{needed, head_of, head_test, ops_place}
 use Rattle.theory.proofs.Verdicts.{then_accepts}
 use Rattle.theory.proofs.Judging.{says_counts, field_passed, head_row, head_ok}
+use Rattle.fields.specs.declared.Refusal.{Refusal}
+use Rattle.fields.specs.Verdicts.{refusal_of, answered}
+use Rattle.fields.specs.Fields.{IsPlace}
 use Rattle.heads.specs.Heads.{len_test, counts_test, modes_test}
 use Rattle.heads.specs.WordLaws.{sets_first}
+
+-- what `?` hands back is the refusal that its callee answered
+pub handed_back : {A : Type 0} (r : Result A Refusal) (q : Refusal) {w : Verdict A} → IsErrAnd r (λ y. y ≡ q) → refusal_of q ≡ w → answered r ≡ w
+handed_back (Ok x) q h e = absurd h
+handed_back (Err y) q h e = ap (λ (r : Refusal). refusal_of r) h ∙ e
 
 -- what the reading needs of a head that passes
 pub record HeadFits (s : List ℕ) : Type 0 where
@@ -53,3 +62,6 @@ module _ (s : List ℕ) where
         cells = counts.1.1.0;
         modes = counts.1.1.1.1;
       }
+
+  pub head_long : head_test s ≡ accepted tt → 18 < length s
+  head_long e = omega (arith, head_fits e)

@@ -8,8 +8,9 @@ use Rattle.theory.proofs.Order.{Cmp, cmp, filled_more}
 use Rattle.theory.proofs.Sets.{in_none}
 use Rattle.sets.specs.Members.{in_with}
 use Rattle.laters.specs.Laters.{MayMeet, LaterOf, AllLater}
+use Rattle.columns.specs.declared.Dated.{Dated}
 
-module _ (cols : List ℕ) (i q : ℕ) where
+module _ (cols : List Dated) (i q : ℕ) where
   pub later_none : LaterOf cols i q 0 0
   later_none = record { exact = λ j. (λ h. absurd (in_none j h), λ h. absurd (omega (arith, h.0))) }
 
@@ -40,6 +41,6 @@ module _ (cols : List ℕ) (i q : ℕ) where
         bwd j h (Cmp.more e) = absurd (omega (arith, h.0))
 
 -- one set more
-pub all_later_more : (cols : List ℕ) (q k r : ℕ) (later : List ℕ) → k < length later → AllLater cols q k later → LaterOf cols k q 32 r
+pub all_later_more : (cols : List Dated) (q k r : ℕ) (later : List ℕ) → k < length later → AllLater cols q k later → LaterOf cols k q 32 r
     → AllLater cols q (k + 1) (set later k r)
 all_later_more cols q k r later h all here = record { each = filled_more (λ i x. LaterOf cols i q 32 x) k r later h all.each here }

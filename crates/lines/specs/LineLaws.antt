@@ -29,12 +29,13 @@ module _ (out : List ℕ) (at n : ℕ) where
   digit_last {mid} {end} h front =
       rw (decimal_more n h) (puts_then out at (decimal (n / 10)) ((48 + n % 10) ∷ []) front (puts_one mid end (48 + n % 10)))
 
--- ---- bytes copied one by one
-module _ (out : List ℕ) (at : ℕ) (w : List ℕ) where
-  pub copy_none : out ≡ stored out at (take 0 w)
-  unfolding stored
-  copy_none = refl
+-- ---- nothing stored yet
+pub copy_none : (out : List ℕ) (at : ℕ) (w : List ℕ) → out ≡ stored out at (take 0 w)
+unfolding stored
+copy_none out at w = refl
 
+-- bytes copied one by one
+module _ (out : List ℕ) (at : ℕ) (w : List ℕ) where
   pub copy_turn : (i : ℕ) {mid : List ℕ} → i < length w → mid ≡ stored out at (take i w) → set mid (at + i) (get_or w i 0) ≡ stored out at (take (i + 1) w)
   copy_turn i {mid} h e =
       rw (add-one, take-suc w i 0 h)

@@ -15,11 +15,11 @@ fn put_decimal(out: &mut [u8], at: usize, n: u64) -> usize
     ensures { Puts out.old out.new at result (decimal n) }
 {
     if n < 10 {
-        out[at] = (48 + n) as u8;
+        out[at] = b'0' + n as u8;
         return at + 1;
     }
     let end = put_decimal(out, at, n / 10);
-    out[end] = (48 + n % 10) as u8;
+    out[end] = b'0' + (n % 10) as u8;
     end + 1
 }
 
@@ -28,13 +28,9 @@ pub fn put_bytes(out: &mut [u8], at: usize, w: &[u8]) -> usize
     requires { at + length w.now ≤ length out.old }
     ensures { Puts out.old out.new at result w.now }
 {
-    let n = w.len();
-    let mut i: usize = 0;
-    while i < n {
-        out[at + i] = w[i];
-        i += 1;
-    }
-    at + n
+    let end = at + w.len();
+    out[at..end].copy_from_slice(w);
+    end
 }
 
 // A word and a number behind it.

@@ -6,17 +6,12 @@ ghost use Rattle.rules.specs.Table.{held_to};
 ghost use Rattle.rules.specs.Verdicts.{accepted, ◌then◌};
 ghost use Rattle.rules.specs.Rows.{margin};
 ghost use Rattle.rules.specs.Answers.{margin_test, IsMargin};
+ghost use Rattle.fields.specs.Verdicts.{answered};
 ghost use Rattle.table.specs.Tables.{op_of, table_of, Good};
-ghost use Rattle.margins.specs.Margins.{measured_of, gap};
+ghost use Rattle.margins.specs.Margins.{gap};
 
-use fields::{Refusal, Verdict};
+use fields::Refusal;
 use table::{Op, Table};
-
-#[derive(Clone, Copy)]
-pub enum Measured {
-    Margin(i32),
-    Denied(Refusal),
-}
 
 // One signed subtraction.
 fn diff(later: u32, end: u32) -> i32
@@ -37,36 +32,32 @@ fn measure(o: Op, u: Op, n: u32, q: u32) -> i32
 }
 
 // The margin of operations i and j of an accepted table, or ASK.
-fn margin_of(t: Table, i: u64, j: u64, n: u64, q: u64) -> Measured
+fn margin_of(t: Table, i: u64, j: u64, n: u64, q: u64) -> Result<i32, Refusal>
     requires { Good t }
-    ensures { measured_of result ≡ (margin_test (table_of t) i j n q then accepted (margin (table_of t) i j n q)) }
+    ensures { answered result ≡ (margin_test (table_of t) i j n q then accepted (margin (table_of t) i j n q)) }
 {
     let count = t.count as u64;
     if count <= i {
-        return Measured::Denied(Refusal::Ask(0));
+        return Err(Refusal::Ask(0));
     }
     if count <= j {
-        return Measured::Denied(Refusal::Ask(1));
+        return Err(Refusal::Ask(1));
     }
     if !asks::in_range(n, 1000) {
-        return Measured::Denied(Refusal::Ask(2));
+        return Err(Refusal::Ask(2));
     }
     if !asks::in_range(q, t.len as u64) {
-        return Measured::Denied(Refusal::Ask(3));
+        return Err(Refusal::Ask(3));
     }
     let a = i as usize;
     let b = j as usize;
-    Measured::Margin(measure(t.ops[a], t.ops[b], n as u32, q as u32))
+    Ok(measure(t.ops[a], t.ops[b], n as u32, q as u32))
 }
 
 // The margin of operations i and j at distance n and period q.
-pub fn margin(s: &[u8], i: u64, j: u64, n: u64, q: u64) -> Measured
-    ensures { IsMargin s.now i j n q (measured_of result) }
+pub fn margin(s: &[u8], i: u64, j: u64, n: u64, q: u64) -> Result<i32, Refusal>
+    ensures { IsMargin s.now i j n q (answered result) }
 {
-    let judged = reading::read(s);
-    let verdict = judged.verdict;
-    match verdict {
-        Verdict::Refused(r) => Measured::Denied(r),
-        Verdict::Accepted => margin_of(judged.table, i, j, n, q),
-    }
+    let t = reading::read(s)?;
+    margin_of(t, i, j, n, q)
 }

@@ -1,16 +1,17 @@
 -- Periods that are marked, and the operations for which they are.
 -- Assumes nothing.
-use Rattle.std.specs.Prelude.{ℕ, suc, ◌+◌, ◌*◌, ◌<◌, ◌≡◌, List, ◌↔◌, ◌⊎◌, length, get_or}
+use Rattle.std.specs.Prelude.{ℕ, suc, ◌+◌, ◌*◌, ◌<◌, ◌≡◌, Bool, true, false, List, ◌↔◌, ◌⊎◌, length, get_or}
 use Rattle.rules.specs.Sets.{In, Share, Overlap}
 use Rattle.rules.specs.Table.{Op, held_to}
 use Rattle.columns.specs.Columns.{op_by}
+use Rattle.columns.specs.declared.Dated.{Dated}
 
 -- the number x is marked
-abbrev pub Marked : List ℕ → ℕ → Type 0
-Marked wrong x = get_or wrong x 0 ≡ 1
+abbrev pub Marked : List Bool → ℕ → Type 0
+Marked wrong x = get_or wrong x false ≡ true
 
 -- the marks of `new` are those of `old` and the numbers at which P holds
-pub record Adds (old : List ℕ) (P : ℕ → Type 0) (new : List ℕ) : Type 0 where
+pub record Adds (old : List Bool) (P : ℕ → Type 0) (new : List Bool) : Type 0 where
   pub long : length new ≡ length old
   pub exact : (x : ℕ) → Marked new x ↔ (Marked old x ⊎ P x)
 
@@ -23,12 +24,12 @@ abbrev pub Near : Op → Op → ℕ → ℕ → Type 0
 Near o u n q = u.start + suc n * q < held_to o
 
 -- r has those of the set that are near operation i
-pub record Keeps (cols : List ℕ) (i n q set r : ℕ) : Type 0 where
+pub record Keeps (cols : List Dated) (i n q set r : ℕ) : Type 0 where
   pub exact : (j : ℕ) → In j r ↔ (In j set × Near (op_by cols i) (op_by cols j) n q)
 
 -- at period x, operation j meets operation i, in one of the modes `after`; or one of a set does
-abbrev pub Hits : List ℕ → ℕ → ℕ → ℕ → ℕ → ℕ → Type 0
+abbrev pub Hits : List Dated → ℕ → ℕ → ℕ → ℕ → ℕ → Type 0
 Hits cols i after n j x = Share after (op_by cols j).modes × Meets (op_by cols i) (op_by cols j) n x
 
-abbrev pub HitBy : List ℕ → ℕ → ℕ → ℕ → ℕ → ℕ → Type 0
+abbrev pub HitBy : List Dated → ℕ → ℕ → ℕ → ℕ → ℕ → Type 0
 HitBy cols i after n set x = (j : ℕ) × In j set × Hits cols i after n j x

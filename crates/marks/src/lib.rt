@@ -5,20 +5,21 @@ ghost use Rattle.std.specs.Prelude.{◌≡◌, true, ◌↔◌, ◌<◌, ◌≤�
 ghost use Rattle.columns.specs.Columns.{op_by, Short};
 ghost use Rattle.marks.specs.Marks.{Adds, Meets, Near, Keeps, Hits, HitBy};
 
+use columns::Dated;
+use sets::Members;
+
 // The numbers from one up to but not including another.
-fn mark(wrong: &mut [u8; 1000], from: u32, to: u32)
+fn mark(wrong: &mut [bool; 1000], from: u32, to: u32)
     requires { (length wrong.old ≡ 1000) × (to ≤ 1000) }
     ensures { Adds wrong.old (λ x. (from ≤ x) × (x < to)) wrong.new }
 {
-    let mut x = from;
-    while x < to {
-        wrong[x as usize] = 1;
-        x += 1;
+    for x in from..to {
+        wrong[x as usize] = true;
     }
 }
 
 // The periods from q on at which operation j, n + 1 cycles after i, runs while i holds its boards.
-fn mark_pair(wrong: &mut [u8; 1000], cols: &[u32; 224], i: usize, j: usize, n: u32, q: u32)
+fn mark_pair(wrong: &mut [bool; 1000], cols: &[Dated; 32], i: usize, j: usize, n: u32, q: u32)
     requires { (length wrong.old ≡ 1000) × (i < 32) × (j < 32) × Short cols.now × (n ≤ 1000) × (q ≤ 1000) }
     ensures { Adds wrong.old (λ x. (q ≤ x) × Meets (op_by cols.now i) (op_by cols.now j) n x) wrong.new }
 {
@@ -30,8 +31,8 @@ fn mark_pair(wrong: &mut [u8; 1000], cols: &[u32; 224], i: usize, j: usize, n: u
 // The same where j can run in one of the modes `after`. Whether j still counts: who starts when i has let go of its boards does so at every
 // further distance and every longer period.
 fn mark_one(
-    wrong: &mut [u8; 1000],
-    cols: &[u32; 224],
+    wrong: &mut [bool; 1000],
+    cols: &[Dated; 32],
     i: usize,
     j: usize,
     after: u32,
@@ -54,8 +55,8 @@ fn mark_one(
 
 // The same for each operation of a set; those that still count are given back.
 pub fn mark_op(
-    wrong: &mut [u8; 1000],
-    cols: &[u32; 224],
+    wrong: &mut [bool; 1000],
+    cols: &[Dated; 32],
     i: usize,
     set: u32,
     after: u32,
@@ -67,13 +68,10 @@ pub fn mark_op(
         × Adds wrong.old (λ x. (q ≤ x) × HitBy cols.now i after n set x) wrong.new }
 {
     let mut keep = set;
-    let mut left = set;
-    while left != 0 {
-        let m = sets::lowest(left);
+    for m in Members(set) {
         if !mark_one(wrong, cols, i, m as usize, after, n, q) {
             keep = sets::rest(keep, m);
         }
-        left = sets::rest(left, m);
     }
     keep
 }

@@ -1,9 +1,9 @@
 -- What users offer to the ring, one after the other; what that is of the uses in a mode; and the modes, one after the other.
 -- Assumes nothing.
-use Rattle.std.specs.Prelude.{ℕ, ◌+◌, ◌-◌, ◌*◌, ◌^◌, ◌<◌, ◌≤◌, max, ◌≡◌, refl, List, ◌↔◌, ◌⊎◌, length, get_or, set, replicate}
+use Rattle.std.specs.Prelude.{ℕ, ◌+◌, ◌*◌, ◌^◌, ◌<◌, ◌≤◌, max, ◌≡◌, refl, List, ◌↔◌, ◌⊎◌, length, get_or, set, replicate}
 use Rattle.std.proofs.Common.{sym, ap, subst, ◌∙◌, inl, inr, arith, length-set, get_or-set_same, get_or-set_other}
 use Rattle.std.proofs.Math.Path.{subst⁻¹}
-use Rattle.std.proofs.Math.Decide.{ℕ_discrete, dec_lt}
+use Rattle.std.proofs.Math.Decide.{ℕ_discrete}
 use Rattle.std.proofs.lemmas.List.{get_or-replicate}
 use Rattle.rules.specs.Sets.{In, Within}
 use Rattle.rules.specs.Table.{Op, Table, op, end_of, Accepted}
@@ -15,60 +15,64 @@ use Rattle.lives.specs.Left.{Most, Low}
 use Rattle.lives.proofs.Cycles.{in_parts}
 use Rattle.lives.proofs.Rows.{most_none, most_as}
 use Rattle.sets.specs.Members.{Past, past_none, past_all, rest_within, past_more}
-use Rattle.columns.specs.Columns.{op_by, Settled, Columns, Short}
+use Rattle.columns.specs.Columns.{dates, op_by, Settled, Columns, Short}
 use Rattle.columns.specs.ColumnLaws.{op_there_lem}
+use Rattle.columns.specs.declared.Dated.{Dated}
 use Rattle.counting.specs.Counting.{InMode, ReadersOf, WritersOf, ReadersIn, WritersIn}
 use Rattle.counting.specs.CountingLaws.{mode_readers, mode_writers, ended_is, ended_all}
 use Rattle.offers.specs.Offers.{ahead_of, Offer, Offered, OfferedMode, UsesOf}
 
 -- ---- dates
 
--- the end, as it stands in its column
-end_is : (cols : List ℕ) → Settled cols → (i : ℕ) → i < 32 → end_of (op_by cols i) ≡ get_or cols (32 + i) 0
+-- the end, as it stands there
+end_is : (cols : List Dated) → Settled cols → (i : ℕ) → i < 32 → end_of (op_by cols i) ≡ (dates cols i).end
 end_is cols s i h = omega (arith, (s i h).lasts)
 
 -- no start and no end is later than the longest table
-pub date_short : {cols : List ℕ} → Short cols → (i : ℕ) → i < 64 → get_or cols i 0 ≤ 1000
-date_short {cols} s i h = go (dec_lt i 32)
-  where
-    go : Dec (i < 32) → get_or cols i 0 ≤ 1000
-    go (yes l) = omega (arith, s.ends i l)
-    go (no l) =
-        let e : 32 + (i - 32) ≡ i = omega arith in
-        let g : i - 32 < 32 = omega arith in
-        subst (λ (k : ℕ). get_or cols k 0 ≤ 1000) e (omega (arith, end_is cols s.settled (i - 32) g, s.ends (i - 32) g))
+pub start_short : {cols : List Dated} → Short cols → (i : ℕ) → i < 32 → (dates cols i).start ≤ 1000
+start_short s i h = omega (arith, s.ends i h)
+
+pub end_short : {cols : List Dated} → Short cols → (i : ℕ) → i < 32 → (dates cols i).end ≤ 1000
+end_short {cols} s i h = omega (arith, end_is cols s.settled i h, s.ends i h)
+
+-- when readers use the cell, and when writers do
+abbrev pub starts : List Dated → ℕ → ℕ
+starts cols j = (dates cols j).start
+
+abbrev pub ends : List Dated → ℕ → ℕ
+ends cols j = (dates cols j).end
 
 -- ---- the users, one after the other
 
 -- what a user that was visited offers to entry k
-abbrev Gone : List ℕ → ℕ → ℕ → ℕ → ℕ → ℕ → ℕ → ℕ → Type 0
-Gone cols w users at m left k y =
-    (j : ℕ) × Past users left j × (k ≡ 32 * ahead_of cols w (get_or cols (at + j) 0) + m) × (y ≡ end_of (op_by cols j))
+abbrev Gone : List Dated → ℕ → ℕ → (ℕ → ℕ) → ℕ → ℕ → ℕ → ℕ → Type 0
+Gone cols w users since m left k y =
+    (j : ℕ) × Past users left j × (k ≡ 32 * ahead_of cols w (since j) + m) × (y ≡ end_of (op_by cols j))
 
 -- each entry is the most of what it was and what the users that were visited offer
-pub record Offering (cols : List ℕ) (w users at m left : ℕ) (old new : List ℕ) : Type 0 where
+pub record Offering (cols : List Dated) (w users : ℕ) (since : ℕ → ℕ) (m left : ℕ) (old new : List ℕ) : Type 0 where
   pub inside : Within left users
   pub long : length new ≡ length old
-  pub each : (k : ℕ) → k < 1056 → Most (λ y. (y ≡ get_or old k 0) ⊎ Gone cols w users at m left k y) (get_or new k 0)
+  pub each : (k : ℕ) → k < 1056 → Most (λ y. (y ≡ get_or old k 0) ⊎ Gone cols w users since m left k y) (get_or new k 0)
 
-pub offering_none : (cols old : List ℕ) (w users at m : ℕ) → Offering cols w users at m users old old
-offering_none cols old w users at m =
+pub offering_none : (cols : List Dated) (old : List ℕ) (w users : ℕ) (since : ℕ → ℕ) (m : ℕ) → Offering cols w users since m users old old
+offering_none cols old w users since m =
     record { inside = λ j h. h; long = refl; each = λ k l. record { most = up k; least = λ z bound. bound (get_or old k 0) (inl refl) } }
   where
-    up : (k y : ℕ) → (y ≡ get_or old k 0) ⊎ Gone cols w users at m users k y → y ≤ get_or old k 0
+    up : (k y : ℕ) → (y ≡ get_or old k 0) ⊎ Gone cols w users since m users k y → y ≤ get_or old k 0
     up k y (inl e) = omega arith
     up k y (inr (j, p, e, f)) = absurd (past_none users j p)
 
-module _ {cols old mid : List ℕ} {w users at m left : ℕ} (u x i : ℕ) (here : In u left) (low : i < length mid)
-    (is : i ≡ 32 * ahead_of cols w (get_or cols (at + u) 0) + m) (ends : x ≡ end_of (op_by cols u)) (o : Offering cols w users at m left old mid) where
+module _ {cols : List Dated} {old mid : List ℕ} {w users : ℕ} {since : ℕ → ℕ} {m left : ℕ} (u x i : ℕ) (here : In u left) (low : i < length mid)
+    (is : i ≡ 32 * ahead_of cols w (since u) + m) (ends : x ≡ end_of (op_by cols u)) (o : Offering cols w users since m left old mid) where
   abbrev after : List ℕ
   after = set mid i (max (get_or mid i 0) x)
 
   abbrev Before : ℕ → ℕ → Type 0
-  Before k y = (y ≡ get_or old k 0) ⊎ Gone cols w users at m left k y
+  Before k y = (y ≡ get_or old k 0) ⊎ Gone cols w users since m left k y
 
   abbrev Now : ℕ → ℕ → Type 0
-  Now k y = (y ≡ get_or old k 0) ⊎ Gone cols w users at m (without left (2 ^ u)) k y
+  Now k y = (y ≡ get_or old k 0) ⊎ Gone cols w users since m (without left (2 ^ u)) k y
 
   past : (j : ℕ) → Past users (without left (2 ^ u)) j ↔ (Past users left j ⊎ (j ≡ u))
   past = past_more users left u o.inside here
@@ -85,7 +89,7 @@ module _ {cols old mid : List ℕ} {w users at m left : ℕ} (u x i : ℕ) (here
       go : Past users left j ⊎ (j ≡ u) → Before k y ⊎ ((k ≡ i) × (y ≡ x))
       go (inl q) = inl (inr (j, q, e, f))
       go (inr d) = inr (
-        subst (λ (n : ℕ). k ≡ 32 * ahead_of cols w (get_or cols (at + n) 0) + m) d e ∙ sym is,
+        subst (λ (n : ℕ). k ≡ 32 * ahead_of cols w (since n) + m) d e ∙ sym is,
         subst (λ (n : ℕ). y ≡ end_of (op_by cols n)) d f ∙ sym ends,
       )
 
@@ -112,7 +116,7 @@ module _ {cols old mid : List ℕ} {w users at m left : ℕ} (u x i : ℕ) (here
       (rw (get_or-set_same mid i (max (get_or mid i 0) x) 0 low) (now_here (omega arith)))
   now_each k l (no n) = rw (get_or-set_other mid i k (max (get_or mid i 0) x) 0 n) (now_other k l n)
 
-  pub offering_more : Offering cols w users at m (without left (2 ^ u)) old after
+  pub offering_more : Offering cols w users since m (without left (2 ^ u)) old after
   offering_more =
       record {
         inside = rest_within users left u o.inside here;
@@ -120,36 +124,36 @@ module _ {cols old mid : List ℕ} {w users at m left : ℕ} (u x i : ℕ) (here
         each = λ k l. now_each k l (ℕ_discrete k i);
       }
 
-pub offering_all : {cols old new : List ℕ} {w users at m : ℕ} → Offering cols w users at m 0 old new → Offered cols w users at m old new
-offering_all {cols} {old} {new} {w} {users} {at} {m} o =
+pub offering_all : {cols : List Dated} {old new : List ℕ} {w users : ℕ} {since : ℕ → ℕ} {m : ℕ} → Offering cols w users since m 0 old new → Offered cols w users since m old new
+offering_all {cols} {old} {new} {w} {users} {since} {m} o =
     record { long = o.long; each = λ k l. most_as (λ y. (to k y, from k y)) (o.each k l) }
   where
-    to : (k y : ℕ) → (y ≡ get_or old k 0) ⊎ Gone cols w users at m 0 k y → (y ≡ get_or old k 0) ⊎ Offer cols w users at m k y
+    to : (k y : ℕ) → (y ≡ get_or old k 0) ⊎ Gone cols w users since m 0 k y → (y ≡ get_or old k 0) ⊎ Offer cols w users since m k y
     to k y (inl e) = inl e
     to k y (inr (j, p, e, f)) = inr (j, p.0, e, f)
 
-    from : (k y : ℕ) → (y ≡ get_or old k 0) ⊎ Offer cols w users at m k y → (y ≡ get_or old k 0) ⊎ Gone cols w users at m 0 k y
+    from : (k y : ℕ) → (y ≡ get_or old k 0) ⊎ Offer cols w users since m k y → (y ≡ get_or old k 0) ⊎ Gone cols w users since m 0 k y
     from k y (inl e) = inl e
     from k y (inr (j, p, e, f)) = inr (j, past_all users j p, e, f)
 
 -- ---- all uses in a mode
 
 -- an entry that stands in the column of another mode stays
-offered_not : {cols old new : List ℕ} {w users at m : ℕ} → Offered cols w users at m old new → (k : ℕ) → k < 1056
+offered_not : {cols : List Dated} {old new : List ℕ} {w users : ℕ} {since : ℕ → ℕ} {m : ℕ} → Offered cols w users since m old new → (k : ℕ) → k < 1056
     → ((a : ℕ) → k ≡ 32 * a + m → ⊥) → get_or new k 0 ≡ get_or old k 0
-offered_not {cols} {old} {new} {w} {users} {at} {m} o k l n =
+offered_not {cols} {old} {new} {w} {users} {since} {m} o k l n =
     omega (arith, (o.each k l).most (get_or old k 0) (inl refl), (o.each k l).least (get_or old k 0) bound)
   where
-    bound : (y : ℕ) → (y ≡ get_or old k 0) ⊎ Offer cols w users at m k y → y ≤ get_or old k 0
+    bound : (y : ℕ) → (y ≡ get_or old k 0) ⊎ Offer cols w users since m k y → y ≤ get_or old k 0
     bound y (inl e) = omega arith
     bound y (inr (j, p, e, f)) = absurd (n _ e)
 
 -- and no entry comes above 1000, since no operation ends later
-offered_low : {cols old new : List ℕ} {w users at m : ℕ} → Short cols → users < 2 ^ 32 → Offered cols w users at m old new
+offered_low : {cols : List Dated} {old new : List ℕ} {w users : ℕ} {since : ℕ → ℕ} {m : ℕ} → Short cols → users < 2 ^ 32 → Offered cols w users since m old new
     → ((k : ℕ) → k < 1056 → get_or old k 0 ≤ 1000) → (k : ℕ) → k < 1056 → get_or new k 0 ≤ 1000
-offered_low {cols} {old} {new} {w} {users} {at} {m} short small o low k l = (o.each k l).least 1000 bound
+offered_low {cols} {old} {new} {w} {users} {since} {m} short small o low k l = (o.each k l).least 1000 bound
   where
-    bound : (y : ℕ) → (y ≡ get_or old k 0) ⊎ Offer cols w users at m k y → y ≤ 1000
+    bound : (y : ℕ) → (y ≡ get_or old k 0) ⊎ Offer cols w users since m k y → y ≤ 1000
     bound y (inl e) = omega (arith, low k l)
     bound y (inr (j, p, e, f)) = omega (arith, short.ends j (in_small j 32 users small p))
 
@@ -157,7 +161,7 @@ offered_low {cols} {old} {new} {w} {users} {at} {m} short small o low k l = (o.e
 abbrev Use : Table → ℕ → ℕ → ℕ → ℕ → Type 0
 Use T c t m y = (j e : ℕ) × UseIn T c m j e × (ahead_in T c m e ≡ t) × (y ≡ end_of (op T j))
 
-module _ (T : Table) (c m w r : ℕ) (cols : List ℕ) (ok : Accepted T) (C : Columns T cols) (W : WritersIn T c m w) (R : ReadersIn T c m r) where
+module _ (T : Table) (c m w r : ℕ) (cols : List Dated) (ok : Accepted T) (C : Columns T cols) (W : WritersIn T c m w) (R : ReadersIn T c m r) where
   -- the writers that end after a date, by the columns, are the writes ahead of it
   ahead_is : (e : ℕ) → ahead_of cols w e ≡ ahead_in T c m e
   ahead_is e =
@@ -166,33 +170,32 @@ module _ (T : Table) (c m w r : ℕ) (cols : List ℕ) (ok : Accepted T) (C : Co
   ends_as : (j : ℕ) → j < 32 → end_of (op_by cols j) ≡ end_of (op T j)
   ends_as j h = subst (λ (o : Op). end_of (op_by cols j) ≡ end_of o) (C.each j h) refl
 
-  starts_as : (j : ℕ) → j < 32 → get_or cols (0 + j) 0 ≡ (op T j).start
-  starts_as j h =
-      let e : 0 + j ≡ j = omega arith in subst (λ (o : Op). get_or cols (0 + j) 0 ≡ o.start) (C.each j h) (ap (λ (k : ℕ). get_or cols k 0) e)
+  starts_as : (j : ℕ) → j < 32 → starts cols j ≡ (op T j).start
+  starts_as j h = subst (λ (o : Op). starts cols j ≡ o.start) (C.each j h) refl
 
   -- readers and writers offer uses
-  read_use : (t y : ℕ) → Offer cols w r 0 m (32 * t + m) y → Use T c t m y
+  read_use : (t y : ℕ) → Offer cols w r (starts cols) m (32 * t + m) y → Use T c t m y
   read_use t y (j, p, e, f) =
       let (h, runs, reads) = (R j).0 p in (
         j,
-        get_or cols (0 + j) 0,
+        starts cols j,
         record { is_op = op_there_lem T (λ o. o.reads) refl j c reads; runs = runs; uses = inl (reads, starts_as j h) },
-        omega (arith, ahead_is (get_or cols (0 + j) 0)),
+        omega (arith, ahead_is (starts cols j)),
         f ∙ ends_as j h,
       )
 
-  write_use : (t y : ℕ) → Offer cols w w 32 m (32 * t + m) y → Use T c t m y
+  write_use : (t y : ℕ) → Offer cols w w (ends cols) m (32 * t + m) y → Use T c t m y
   write_use t y (j, p, e, f) =
       let (h, runs, writes) = (W j).0 p in (
         j,
-        get_or cols (32 + j) 0,
+        ends cols j,
         record { is_op = op_there_lem T (λ o. o.writes) refl j c writes; runs = runs; uses = inr (writes, sym (end_is cols C.settled j h) ∙ ends_as j h) },
-        omega (arith, ahead_is (get_or cols (32 + j) 0)),
+        omega (arith, ahead_is (ends cols j)),
         f ∙ ends_as j h,
       )
 
   -- and each use is offered by one of them
-  use_offer : (t y : ℕ) → Use T c t m y → Offer cols w r 0 m (32 * t + m) y ⊎ Offer cols w w 32 m (32 * t + m) y
+  use_offer : (t y : ℕ) → Use T c t m y → Offer cols w r (starts cols) m (32 * t + m) y ⊎ Offer cols w w (ends cols) m (32 * t + m) y
   use_offer t y (j, e, used, ahead, f) = go used.uses
     where
       small : j < 32
@@ -202,12 +205,12 @@ module _ (T : Table) (c m w r : ℕ) (cols : List ℕ) (ok : Accepted T) (C : Co
       at d = omega (arith, ahead_is e, ap (ahead_of cols w) d)
 
       go : (In c (op T j).reads × (e ≡ (op T j).start)) ⊎ (In c (op T j).writes × (e ≡ end_of (op T j)))
-          → Offer cols w r 0 m (32 * t + m) y ⊎ Offer cols w w 32 m (32 * t + m) y
+          → Offer cols w r (starts cols) m (32 * t + m) y ⊎ Offer cols w w (ends cols) m (32 * t + m) y
       go (inl (x, d)) = inl (j, (R j).1 (small, used.runs, x), at (starts_as j small ∙ sym d), f ∙ sym (ends_as j small))
       go (inr (x, d)) =
           inr (j, (W j).1 (small, used.runs, x), at (sym (end_is cols C.settled j small) ∙ ends_as j small ∙ sym d), f ∙ sym (ends_as j small))
 
-  offered_here : {old mid new : List ℕ} → m < 32 → Offered cols w r 0 m old mid → Offered cols w w 32 m mid new → (t : ℕ) → t < 33
+  offered_here : {old mid new : List ℕ} → m < 32 → Offered cols w r (starts cols) m old mid → Offered cols w w (ends cols) m mid new → (t : ℕ) → t < 33
       → Most (λ y. (y ≡ get_or old (32 * t + m) 0) ⊎ Use T c t m y) (get_or new (32 * t + m) 0)
   offered_here {old} {mid} {new} g a b t h = record { most = up; least = down }
     where
@@ -221,23 +224,23 @@ module _ (T : Table) (c m w r : ℕ) (cols : List ℕ) (ok : Accepted T) (C : Co
       up y (inl e) = omega (arith, mid_up, (a.each (32 * t + m) l).most y (inl e))
       up y (inr u) = go (use_offer t y u)
         where
-          go : Offer cols w r 0 m (32 * t + m) y ⊎ Offer cols w w 32 m (32 * t + m) y → y ≤ get_or new (32 * t + m) 0
+          go : Offer cols w r (starts cols) m (32 * t + m) y ⊎ Offer cols w w (ends cols) m (32 * t + m) y → y ≤ get_or new (32 * t + m) 0
           go (inl o) = omega (arith, mid_up, (a.each (32 * t + m) l).most y (inr o))
           go (inr o) = (b.each (32 * t + m) l).most y (inr o)
 
       down : (z : ℕ) → ((y : ℕ) → (y ≡ get_or old (32 * t + m) 0) ⊎ Use T c t m y → y ≤ z) → get_or new (32 * t + m) 0 ≤ z
       down z bound = (b.each (32 * t + m) l).least z second
         where
-          first : (y : ℕ) → (y ≡ get_or old (32 * t + m) 0) ⊎ Offer cols w r 0 m (32 * t + m) y → y ≤ z
+          first : (y : ℕ) → (y ≡ get_or old (32 * t + m) 0) ⊎ Offer cols w r (starts cols) m (32 * t + m) y → y ≤ z
           first y (inl e) = bound y (inl e)
           first y (inr o) = bound y (inr (read_use t y o))
 
-          second : (y : ℕ) → (y ≡ get_or mid (32 * t + m) 0) ⊎ Offer cols w w 32 m (32 * t + m) y → y ≤ z
+          second : (y : ℕ) → (y ≡ get_or mid (32 * t + m) 0) ⊎ Offer cols w w (ends cols) m (32 * t + m) y → y ≤ z
           second y (inl e) = omega (arith, (a.each (32 * t + m) l).least z first)
           second y (inr o) = bound y (inr (write_use t y o))
 
-pub offered_mode : {cols old mid new : List ℕ} {writers readers m w r : ℕ} → Short cols → m < 32 → w < 2 ^ 32 → r < 2 ^ 32
-    → InMode cols writers m w → InMode cols readers m r → Offered cols w r 0 m old mid → Offered cols w w 32 m mid new
+pub offered_mode : {cols : List Dated} {old mid new : List ℕ} {writers readers m w r : ℕ} → Short cols → m < 32 → w < 2 ^ 32 → r < 2 ^ 32
+    → InMode cols writers m w → InMode cols readers m r → Offered cols w r (starts cols) m old mid → Offered cols w w (ends cols) m mid new
     → OfferedMode cols writers readers m old new
 offered_mode {cols = cols} {m = m} {w = w} {r = r} short l small small' is is' a b =
     record {
@@ -253,14 +256,14 @@ offered_mode {cols = cols} {m = m} {w = w} {r = r} short l small small' is is' a
 -- ---- the modes, one after the other
 
 -- the modes that were visited have the most of their uses, and nothing waits in the others
-pub record Filling (cols : List ℕ) (writers readers reached left : ℕ) (ring : List ℕ) : Type 0 where
+pub record Filling (cols : List Dated) (writers readers reached left : ℕ) (ring : List ℕ) : Type 0 where
   pub inside : Within left reached
   pub long : length ring ≡ 1056
   pub low : Low ring 1056
   pub each : (T : Table) (c : ℕ) → Accepted T → Columns T cols → WritersOf T c writers → ReadersOf T c readers → (t m : ℕ) → t < 33 → m < 32
       → Most (λ y. Past reached left m × Use T c t m y) (get_or ring (32 * t + m) 0)
 
-pub filling_none : (cols ring : List ℕ) (writers readers reached : ℕ) → ring ≡ replicate 1056 0 → Filling cols writers readers reached reached ring
+pub filling_none : (cols : List Dated) (ring : List ℕ) (writers readers reached : ℕ) → ring ≡ replicate 1056 0 → Filling cols writers readers reached reached ring
 filling_none cols ring writers readers reached e =
     record {
       inside = λ m h. h;
@@ -275,7 +278,7 @@ filling_none cols ring writers readers reached e =
     empty : (k : ℕ) → k < 1056 → get_or ring k 0 ≡ 0
     empty k l = rw e (get_or-replicate {A = ℕ} 1056 k 0 0 l)
 
-pub filling_more : {cols ring new : List ℕ} {writers readers reached left : ℕ} (m : ℕ) → In m left → m < 32
+pub filling_more : {cols : List Dated} {ring new : List ℕ} {writers readers reached left : ℕ} (m : ℕ) → In m left → m < 32
     → Filling cols writers readers reached left ring → OfferedMode cols writers readers m ring new
     → Filling cols writers readers reached (without left (2 ^ m)) new
 filling_more {cols} {ring} {new} {writers} {readers} {reached} {left} m here small f o =
@@ -311,7 +314,7 @@ filling_more {cols} {ring} {new} {writers} {readers} {reached} {left} m here sma
         back (inl p) = p
         back (inr e) = absurd (d e)
 
-pub filling_all : {cols ring : List ℕ} {writers readers reached : ℕ} → Filling cols writers readers reached 0 ring → (T : Table) (c : ℕ) → Accepted T
+pub filling_all : {cols : List Dated} {ring : List ℕ} {writers readers reached : ℕ} → Filling cols writers readers reached 0 ring → (T : Table) (c : ℕ) → Accepted T
     → Columns T cols → WritersOf T c writers → ReadersOf T c readers → IsReach T reached → UsesOf T c ring
 unfolding IsReach
 filling_all {reached = reached} f T c ok C W R reach t m h l =

@@ -6,25 +6,26 @@ use Rattle.rules.specs.Table.{Table, op, end_of, Accepted}
 use Rattle.lives.specs.Near.{ahead_in, UseIn}
 use Rattle.lives.specs.Left.{Most, Used}
 use Rattle.columns.specs.Columns.{op_by, Columns}
+use Rattle.columns.specs.declared.Dated.{Dated}
 use Rattle.counting.specs.Counting.{ended_of, ReadersOf, WritersOf}
 
 -- how many of the writers end after the date e
-abbrev pub ahead_of : List ℕ → ℕ → ℕ → ℕ
+abbrev pub ahead_of : List Dated → ℕ → ℕ → ℕ
 ahead_of cols w e = ended_of cols w 1000 - ended_of cols w e
 
--- what a user with the date in the column from `at` on offers to entry k
-abbrev pub Offer : List ℕ → ℕ → ℕ → ℕ → ℕ → ℕ → ℕ → Type 0
-Offer cols w users at m k y =
-    (j : ℕ) × In j users × (k ≡ 32 * ahead_of cols w (get_or cols (at + j) 0) + m) × (y ≡ end_of (op_by cols j))
+-- what a user of the cell since a date offers to entry k
+abbrev pub Offer : List Dated → ℕ → ℕ → (ℕ → ℕ) → ℕ → ℕ → ℕ → Type 0
+Offer cols w users since m k y =
+    (j : ℕ) × In j users × (k ≡ 32 * ahead_of cols w (since j) + m) × (y ≡ end_of (op_by cols j))
 
 -- each entry is the most of what it was and what is offered
-pub record Offered (cols : List ℕ) (w users at m : ℕ) (old new : List ℕ) : Type 0 where
+pub record Offered (cols : List Dated) (w users : ℕ) (since : ℕ → ℕ) (m : ℕ) (old new : List ℕ) : Type 0 where
   pub long : length new ≡ length old
-  pub each : (k : ℕ) → k < 1056 → Most (λ y. (y ≡ get_or old k 0) ⊎ Offer cols w users at m k y) (get_or new k 0)
+  pub each : (k : ℕ) → k < 1056 → Most (λ y. (y ≡ get_or old k 0) ⊎ Offer cols w users since m k y) (get_or new k 0)
 
 -- the uses in mode m, whatever the table: the column of m has the most of what it was and of the uses, and the others are as before; and no entry
 -- is above 1000 where none was
-pub record OfferedMode (cols : List ℕ) (writers readers m : ℕ) (old new : List ℕ) : Type 0 where
+pub record OfferedMode (cols : List Dated) (writers readers m : ℕ) (old new : List ℕ) : Type 0 where
   pub long : length new ≡ length old
   pub low : ((k : ℕ) → k < 1056 → get_or old k 0 ≤ 1000) → (k : ℕ) → k < 1056 → get_or new k 0 ≤ 1000
   pub here : (T : Table) (c : ℕ) → Accepted T → Columns T cols → WritersOf T c writers → ReadersOf T c readers → (t : ℕ) → t < 33

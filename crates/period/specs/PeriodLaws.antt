@@ -15,6 +15,7 @@ use Rattle.table.specs.Tables.{op_in, table_of, blank_op, padded, Good}
 use Rattle.table.specs.TableLaws.{good_few, good_op}
 use Rattle.columns.specs.Columns.{HeldShort, Columns, Short}
 use Rattle.columns.specs.ColumnLaws.{columns_short, leaves_by}
+use Rattle.columns.specs.declared.Dated.{Dated}
 use Rattle.turns.specs.Turns.{TurnsOf}
 use Rattle.turns.specs.TurnLaws.{good_via}
 use Rattle.boards.specs.Boards.{EndsBy, FirstRight, FirstFine}
@@ -73,7 +74,7 @@ columns_asked t good = (
   λ i h. omega (arith, (good_op t good i h).fits, good.accepted.len_high),
 )
 
-pub columns_found : (t : code.Table) {cols : List ℕ} → ((T : Table) → T.ops ≡ (table_of t).ops → Columns T cols) → Columns (table_of t) cols
+pub columns_found : (t : code.Table) {cols : List Dated} → ((T : Table) → T.ops ≡ (table_of t).ops → Columns T cols) → Columns (table_of t) cols
 columns_found t f = f (table_of t) refl
 
 -- what the loop over the turns finds
@@ -82,7 +83,7 @@ pub reach_found : (t : code.Table) (good : Good t) (r : ℕ)
 reach_found t good r f = f (table_of t) good.accepted (good_via t good) refl
 
 -- ---- what the two searches ask, and what they find, by the columns of a table that the engine takes
-module _ (t : code.Table) (good : Good t) (cols : List ℕ) (c : Columns (table_of t) cols) where
+module _ (t : code.Table) (good : Good t) (cols : List Dated) (c : Columns (table_of t) cols) where
   pub values_asked_lem : Short cols × (t.cells ≤ 32)
   values_asked_lem = (columns_short good.accepted c, good.accepted.cells_high)
 

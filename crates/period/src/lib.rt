@@ -7,6 +7,8 @@ ghost use Rattle.table.specs.Tables.{table_of, Good};
 
 use table::Table;
 
+// The four lines that make what the searches are lent stand in each function: a helper that hands it back costs 900 bytes more of stack.
+
 // No two running steps hold one board at once, in any run: the sweep that begins at q ends there.
 pub fn boards_fit(t: Table, q: u32) -> bool
     requires { Good t × (1 ≤ q) × (q ≤ t.len) }

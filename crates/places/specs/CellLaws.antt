@@ -3,6 +3,7 @@
 use Rattle.std.specs.Prelude.{ℕ, ◌+◌, ◌*◌, ◌%◌, ◌^◌, ◌<◌, ◌≤◌, ◌≡◌, refl, List, ◌↔◌, length, get_or, take}
 use Rattle.std.proofs.Common.{subst, ◌∙◌, arith, length-take, get_or-take}
 use Rattle.std.proofs.Math.Path.{subst⁻¹}
+use Rattle.std.proofs.Math.Decide.{dec_lt}
 use Rattle.rules.specs.Sets.{In}
 use Rattle.rules.specs.Table.{Op, Table, Accepted}
 use Rattle.rules.specs.Runs.{ValuesRightAt, spaced}
@@ -12,7 +13,8 @@ use Rattle.theory.proofs.Sets.{in_single}
 use Rattle.theory.proofs.Modes.{in_step}
 use Rattle.lives.specs.Left.{Most, Used, IsRow, Farther, Few}
 use Rattle.lives.proofs.Rows.{ring_first, searched_none, searched_bound, searched_more, searched_places}
-use Rattle.columns.specs.Columns.{Columns}
+use Rattle.columns.specs.Columns.{op_by, Columns}
+use Rattle.columns.specs.declared.Dated.{Dated}
 use Rattle.turns.specs.Turns.{TurnsOf}
 use Rattle.cells.specs.Cells.{Turned}
 use Rattle.counting.specs.Counting.{ReadersOf, WritersOf}
@@ -40,14 +42,14 @@ follows_of T F turns m b h =
       λ x. (step_one F m b).0 (subst⁻¹ (λ (s : ℕ). In b s) same ((step_one T.follow m b).1 x)),
     )
 
-module _ (T : Table) (cols : List ℕ) (C : Columns T cols) (users : List ℕ) (c : ℕ) (small : c < 32) where
-  pub writers_of : Turned cols 128 users → WritersOf T c (get_or users c 0)
+module _ (T : Table) (cols : List Dated) (C : Columns T cols) (users : List ℕ) (c : ℕ) (small : c < 32) where
+  pub writers_of : Turned (λ k. (op_by cols k).writes) users → WritersOf T c (get_or users c 0)
   writers_of turned u = (
     λ h. let (l, x) = (turned.each c u small).0 h in (l, subst (λ (o : Op). In c o.writes) (C.each u l) x),
     λ (l, x). (turned.each c u small).1 (l, subst⁻¹ (λ (o : Op). In c o.writes) (C.each u l) x),
   )
 
-  pub readers_of : Turned cols 96 users → ReadersOf T c (get_or users c 0)
+  pub readers_of : Turned (λ k. (op_by cols k).reads) users → ReadersOf T c (get_or users c 0)
   readers_of turned u = (
     λ h. let (l, x) = (turned.each c u small).0 h in (l, subst (λ (o : Op). In c o.reads) (C.each u l) x),
     λ (l, x). (turned.each c u small).1 (l, subst⁻¹ (λ (o : Op). In c o.reads) (C.each u l) x),
@@ -91,6 +93,14 @@ module _ (T : Table) (ok : Accepted T) (q c : ℕ) where
     -- it comes before 32,001 is passed
     pub known_never : 1 ≤ q → s ≤ far → s ≡ 32001 → ⊥
     known_never low h e = omega (arith, searched_bound T ok q c s far k.searched low h)
+
+    -- so it is that at the latest
+    pub known_last : 1 ≤ q → ValuesRightAt T (spaced q) → s ≡ 32001 → IsPlaces T q c 32001
+    known_last low values e = subst (λ (n : ℕ). IsPlaces T q c n) e (known_places values (go (dec_lt far s)))
+      where
+        go : Dec (far < s) → far < s
+        go (yes h) = h
+        go (no h) = absurd (known_never low (omega arith) e)
 
 -- ---- cell by cell
 pub each_all : (T : Table) (q : ℕ) (out : List ℕ) → T.cells ≤ length out → ((c : ℕ) → c < T.cells → IsPlaces T q c (get_or out c 0))

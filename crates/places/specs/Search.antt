@@ -6,6 +6,7 @@ use Rattle.rules.specs.Table.{Table, Accepted}
 use Rattle.theory.specs.Walks.{IsReach}
 use Rattle.lives.specs.Left.{Searched}
 use Rattle.columns.specs.Columns.{Columns}
+use Rattle.columns.specs.declared.Dated.{Dated}
 use Rattle.counting.specs.Counting.{ReadersOf, WritersOf}
 use Rattle.remains.specs.Remains.{FollowsOf, RingOf}
 
@@ -22,7 +23,7 @@ pub record Stops (starts : List ℕ) (m k x s far r : ℕ) : Type 0 where
 
 -- ---- a cell of a table, as it is asked for: by columns, by the followers as they are lent, by the modes that a run can reach, and by the operations
 -- that write and read it
-pub record CellOf (T : Table) (c : ℕ) (cols follow : List ℕ) (R w r : ℕ) : Type 0 where
+pub record CellOf (T : Table) (c : ℕ) (cols : List Dated) (follow : List ℕ) (R w r : ℕ) : Type 0 where
   pub accepted : Accepted T
   pub columns : Columns T cols
   pub follows : FollowsOf T follow

@@ -11,6 +11,7 @@ ghost use Rattle.columns.specs.Columns.{Short};
 ghost use Rattle.ranks.specs.Ranks.{CountsOf, RanksOf};
 ghost use Rattle.places.specs.Search.{IdleIn, Stops, CellOf};
 
+use columns::Dated;
 use table::Table;
 
 // The modes in which nothing is written.
@@ -18,12 +19,10 @@ fn idle_of(counts: &[u32; 32]) -> u32
     ensures { IdleIn counts.now 32 result }
 {
     let mut idle: u32 = 0;
-    let mut m: u32 = 0;
-    while m < 32 {
-        if counts[m as usize] == 0 {
-            idle = sets::with(idle, m);
+    for (m, count) in counts.iter().enumerate() {
+        if *count == 0 {
+            idle = sets::with(idle, m as u32);
         }
-        m += 1;
     }
     idle
 }
@@ -33,14 +32,12 @@ fn reach_mode(starts: &[u32; 1024], m: usize, k: u32, x: u32, s: u32, far: u32) 
     requires { (m < 32) × (k ≤ 32) × (s ≤ far) × (far ≤ 40000) }
     ensures { Stops starts.now m k x s far result }
 {
-    let mut to = far;
-    while to < s + k {
+    for to in far..s + k {
         if x <= starts[32 * m + (to - s) as usize] {
-            break;
+            return to;
         }
-        to += 1;
     }
-    to
+    far.max(s + k)
 }
 
 // The same by each mode.
@@ -49,10 +46,8 @@ fn reach(starts: &[u32; 1024], counts: &[u32; 32], row: &[u32; 32], s: u32, far:
     ensures { (far ≤ result) × (result ≤ s + 32) × ((T : rules.Table) (c : ℕ) → rules.Accepted T → CountsOf T c counts.now → RanksOf T c 32 starts.now → Farther T c s (λ b. get_or row.now b 0) 32 far result) }
 {
     let mut to = far;
-    let mut m: usize = 0;
-    while m < 32 {
-        to = reach_mode(starts, m, counts[m], row[m], s, to);
-        m += 1;
+    for (m, count) in counts.iter().enumerate() {
+        to = reach_mode(starts, m, *count, row[m], s, to);
     }
     to
 }
@@ -60,7 +55,7 @@ fn reach(starts: &[u32; 1024], counts: &[u32; 32], row: &[u32; 32], s: u32, far:
 // The places of one cell, given the operations that write and read it: row after row, until none below the next number reaches it. No cell needs
 // more than 32,001.
 fn cell(
-    cols: &[u32; 224],
+    cols: &[Dated; 32],
     follow: &[u32; 32],
     reached: u32,
     writers: u32,
@@ -76,23 +71,21 @@ fn cell(
     ranks::fill(&mut starts, cols, writers);
     let mut ring = [0u32; 1056];
     offers::fill(&mut ring, cols, writers, readers, reached);
-    let mut s: u32 = 0;
     let mut far: u32 = 0;
-    let mut slot: usize = 0;
-    while s <= far {
-        if s == 32001 {
-            break;
+    for s in 0..32001u32 {
+        if far < s {
+            return s;
         }
+        let slot = s as usize % 33;
         let row = remains::next_row(&ring, slot, follow, idle, q);
         far = reach(&starts, &counts, &row, s, far);
         ring::carry(&mut ring, &row, &counts, slot);
-        slot = ring::wrapped(slot + 1);
-        s += 1;
     }
-    s
+    32001
 }
 
 // The places of each cell of a table at its period.
+// What the searches are lent is made here as in `period`: a helper that hands it back costs 900 bytes more of stack.
 pub fn each(t: Table, q: u32) -> [u32; 32]
     requires { Good t × IsPeriod (table_of t) q }
     ensures { (length result ≡ 32) × EachPlaces (table_of t) q (take t.cells result) }
@@ -101,13 +94,11 @@ pub fn each(t: Table, q: u32) -> [u32; 32]
     let ops = t.ops;
     let cols = columns::columns(ops, t.count);
     let reached = turns::reached(&follow, t.first);
-    let writers = cells::turned(&cols, 128);
-    let readers = cells::turned(&cols, 96);
+    let writers = cells::turned(&cols, |o| o.writes);
+    let readers = cells::turned(&cols, |o| o.reads);
     let mut out = [0u32; 32];
-    let mut c: usize = 0;
-    while c < t.cells as usize {
+    for c in 0..t.cells as usize {
         out[c] = cell(&cols, &follow, reached, writers[c], readers[c], q);
-        c += 1;
     }
     out
 }

@@ -3,20 +3,14 @@
 use Prim.Native.Nat.{ℕ}
 use mathlib.Core.Path.{◌≡◌, sym, ap, ◌∙◌}
 use mathlib.Core.List.{List}
+use Rattle.std.specs.Prelude.{Bool, ℤ, Result}
+use Rattle.fields.specs.declared.Refusal.{Refusal}
 use Rattle.rules.specs.Judge.{Numbers}
 use Rattle.rules.specs.Answers.{IsPlan, IsFold, IsUnfold, IsWrite, IsMargin, IsPeriodOf, IsGapOf, BoardsFit, ValuesArrive}
 use Rattle.theory.proofs.Answering.{plan_unique, text_unique, fold_unique, unfold_unique, write_unique, margin_unique, period_of_unique, gap_of_unique, boards_unique, values_unique}
 use Rattle.theory.proofs.Saying.{said_unique}
-use Rattle.fields.specs.declared.Answer.{Answer}
 use Rattle.fields.specs.Verdicts.{answered, leaving}
-use Rattle.fields.proofs.Told.{leaving_one}
-use Rattle.margins.specs.declared.Measured.{Measured}
-use Rattle.margins.specs.Margins.{measured_of}
-use Rattle.margins.proofs.Unique.{measured_one}
-use Rattle.questions.specs.declared.Truth.{Truth}
-use Rattle.questions.specs.declared.Found.{Found}
-use Rattle.questions.specs.Questions.{truth_of, found_of}
-use Rattle.questions.proofs.Unique.{truth_one, found_one}
+use Rattle.fields.proofs.Told.{answer_one, leaving_one}
 use Rattle.text.specs.declared.Text.{Text}
 use Rattle.text.specs.Texts.{text_in}
 use Rattle.folds.specs.Folds.{TextFor}
@@ -26,7 +20,7 @@ use Rattle.saying.specs.Said.{SaidFor}
 
 -- ---- functions that write
 
-module _ (x y : Answer) (end fin : List ℕ) where
+module _ (x y : Result ℕ Refusal) (end fin : List ℕ) where
   pub plan_one : (s out : List ℕ) → IsPlan s out (leaving (answered x) end) → IsPlan s out (leaving (answered y) fin) → (x ≡ y) × (end ≡ fin)
   plan_one s out p q = leaving_one x y end fin (plan_unique s out _ _ p q)
 
@@ -46,20 +40,20 @@ text_one s x y (b, p, e) (c, q, f) = e ∙ ap text_in (text_unique s b c p q) �
 
 -- ---- questions
 
-pub margin_one : (x y : Measured) (s : List ℕ) (i j n q : ℕ) → IsMargin s i j n q (measured_of x) → IsMargin s i j n q (measured_of y) → x ≡ y
-margin_one x y s i j n q p r = measured_one x y (margin_unique s i j n q _ _ p r)
+pub margin_one : (x y : Result ℤ Refusal) (s : List ℕ) (i j n q : ℕ) → IsMargin s i j n q (answered x) → IsMargin s i j n q (answered y) → x ≡ y
+margin_one x y s i j n q p r = answer_one x y (margin_unique s i j n q _ _ p r)
 
-pub boards_one : (x y : Truth) (s : List ℕ) (q : ℕ) → BoardsFit s q (truth_of x) → BoardsFit s q (truth_of y) → x ≡ y
-boards_one x y s q p r = truth_one x y (boards_unique s q _ _ p r)
+pub boards_one : (x y : Result Bool Refusal) (s : List ℕ) (q : ℕ) → BoardsFit s q (answered x) → BoardsFit s q (answered y) → x ≡ y
+boards_one x y s q p r = answer_one x y (boards_unique s q _ _ p r)
 
-pub values_one : (x y : Truth) (s : List ℕ) (q : ℕ) → ValuesArrive s q (truth_of x) → ValuesArrive s q (truth_of y) → x ≡ y
-values_one x y s q p r = truth_one x y (values_unique s q _ _ p r)
+pub values_one : (x y : Result Bool Refusal) (s : List ℕ) (q : ℕ) → ValuesArrive s q (answered x) → ValuesArrive s q (answered y) → x ≡ y
+values_one x y s q p r = answer_one x y (values_unique s q _ _ p r)
 
-pub period_one : (x y : Found) (s : List ℕ) → IsPeriodOf s (found_of x) → IsPeriodOf s (found_of y) → x ≡ y
-period_one x y s p q = found_one x y (period_of_unique s _ _ p q)
+pub period_one : (x y : Result ℕ Refusal) (s : List ℕ) → IsPeriodOf s (answered x) → IsPeriodOf s (answered y) → x ≡ y
+period_one x y s p q = answer_one x y (period_of_unique s _ _ p q)
 
-pub gap_one : (x y : Found) (s : List ℕ) → IsGapOf s (found_of x) → IsGapOf s (found_of y) → x ≡ y
-gap_one x y s p q = found_one x y (gap_of_unique s _ _ p q)
+pub gap_one : (x y : Result ℕ Refusal) (s : List ℕ) → IsGapOf s (answered x) → IsGapOf s (answered y) → x ≡ y
+gap_one x y s p q = answer_one x y (gap_of_unique s _ _ p q)
 
 -- ---- the text for a question
 

@@ -1,24 +1,21 @@
 // The planner: the public functions. Each promise is a definition of `rules` about the answer, told in document 01's numbers.
 #![tactic(auto)]
 
-ghost use Rattle.std.specs.Prelude.{◌≡◌, [], ◌∷◌};
+ghost use Rattle.std.specs.Prelude.{◌≡◌, map};
 ghost use Rattle.rules.specs.Answers.{IsPlan, IsFold, IsUnfold, IsMargin, IsPeriodOf, IsGapOf, BoardsFit, ValuesArrive, IsWrite};
 ghost use Rattle.fields.specs.Verdicts.{answered, leaving};
-ghost use Rattle.handed.specs.Handed.{numbers};
-ghost use Rattle.questions.specs.Questions.{truth_of, found_of};
-ghost use Rattle.margins.specs.Margins.{measured_of};
+ghost use Rattle.handed.specs.Handed.{numbers_of};
 ghost use Rattle.folds.specs.Folds.{TextFor};
-ghost use Rattle.words.specs.Words.{word_is, read_as, Asks};
+ghost use Rattle.words.specs.Words.{word_is, read_as, AsksFirst};
 ghost use Rattle.saying.specs.Said.{SaidFor};
 
-use fields::Answer;
-use margins::Measured;
-use questions::{Found, Truth};
+use fields::Refusal;
+use handed::Numbers;
 use text::Text;
 use words::{Question, Word};
 
 // A table's reply: its period and rows, from the front of the buffer. On a refusal every byte of it stays.
-pub fn plan(s: &[u8], out: &mut [u8]) -> Answer
+pub fn plan(s: &[u8], out: &mut [u8]) -> Result<usize, Refusal>
     ensures { IsPlan s.now out.old (leaving (answered result) out.new) }
 {
     plans::plan(s, out)
@@ -34,7 +31,7 @@ pub fn text(s: &[u8]) -> Text
 }
 
 // The same into a lent buffer. On ROOM every byte of it stays.
-pub fn fold(s: &[u8], out: &mut [u8]) -> Answer
+pub fn fold(s: &[u8], out: &mut [u8]) -> Result<usize, Refusal>
     ensures { IsFold s.now out.old (leaving (answered result) out.new) }
 {
     folds::fold(s, out)
@@ -49,11 +46,11 @@ pub fn word_of(w: &[u8]) -> Word
     words::word_of(w)
 }
 
-// What words ask, by their number and the first five of them.
-pub fn question_of(count: usize, a: Word, b: Word, c: Word, d: Word, e: Word) -> Question
-    ensures { Asks count (word_is a ∷ word_is b ∷ word_is c ∷ word_is d ∷ word_is e ∷ []) result }
+// What words ask: all of them, or, of more than five, the first six at least.
+pub fn question_of(words: &[Word]) -> Question
+    ensures { AsksFirst (map word_is words.now) result }
 {
-    words::question_of(count, a, b, c, d, e)
+    words::question_of(words)
 }
 
 // The text for a question about the bytes on standard input.
@@ -66,64 +63,50 @@ pub fn say(q: Question, s: &[u8]) -> Text
 // ---- a reply back to starts, questions about a table, and a table from numbers
 
 // The starts that a reply's rows came from, 2 bytes each. On a refusal every byte of the buffer stays.
-pub fn unfold(s: &[u8], out: &mut [u8]) -> Answer
+pub fn unfold(s: &[u8], out: &mut [u8]) -> Result<usize, Refusal>
     ensures { IsUnfold s.now out.old (leaving (answered result) out.new) }
 {
     starts::unfold(s, out)
 }
 
 // The margin of operations i and j at distance n and period q.
-pub fn margin(s: &[u8], i: u64, j: u64, n: u64, q: u64) -> Measured
-    ensures { IsMargin s.now i j n q (measured_of result) }
+pub fn margin(s: &[u8], i: u64, j: u64, n: u64, q: u64) -> Result<i32, Refusal>
+    ensures { IsMargin s.now i j n q (answered result) }
 {
     margins::margin(s, i, j, n, q)
 }
 
 // Whether the boards fit at the period q.
-pub fn boards_fit(s: &[u8], q: u64) -> Truth
-    ensures { BoardsFit s.now q (truth_of result) }
+pub fn boards_fit(s: &[u8], q: u64) -> Result<bool, Refusal>
+    ensures { BoardsFit s.now q (answered result) }
 {
     questions::boards_fit(s, q)
 }
 
 // Whether the values arrive at the period q.
-pub fn values_arrive(s: &[u8], q: u64) -> Truth
-    ensures { ValuesArrive s.now q (truth_of result) }
+pub fn values_arrive(s: &[u8], q: u64) -> Result<bool, Refusal>
+    ensures { ValuesArrive s.now q (answered result) }
 {
     questions::values_arrive(s, q)
 }
 
 // The period: the smallest that is right.
-pub fn period_of(s: &[u8]) -> Found
-    ensures { IsPeriodOf s.now (found_of result) }
+pub fn period_of(s: &[u8]) -> Result<u32, Refusal>
+    ensures { IsPeriodOf s.now (answered result) }
 {
     questions::period_of(s)
 }
 
 // The gap: the smallest that serves where the operator starts the cycles.
-pub fn gap_of(s: &[u8]) -> Found
-    ensures { IsGapOf s.now (found_of result) }
+pub fn gap_of(s: &[u8]) -> Result<u32, Refusal>
+    ensures { IsGapOf s.now (answered result) }
 {
     questions::gap_of(s)
 }
 
 // The bytes of a table that is handed over as numbers; the decider counts where its mark is not 0. On a refusal every byte of the buffer stays.
-pub fn write_table(
-    p: u64,
-    boards: u64,
-    cells: u64,
-    modes: u64,
-    first: u64,
-    follow: &[u64],
-    ops: &[u64],
-    holds: &[u64],
-    mark: u64,
-    decider: u64,
-    out: &mut [u8],
-) -> Answer
-    ensures { IsWrite (numbers p boards cells modes first follow.now ops.now holds.now mark decider) out.old (leaving (answered result) out.new) }
+pub fn write_table(n: Numbers, out: &mut [u8]) -> Result<usize, Refusal>
+    ensures { IsWrite (numbers_of n.entry) out.old (leaving (answered result) out.new) }
 {
-    writing::write(
-        p, boards, cells, modes, first, follow, ops, holds, mark, decider, out,
-    )
+    writing::write(n, out)
 }

@@ -6,32 +6,28 @@ ghost use Rattle.fields.specs.Verdicts.{answered, leaving};
 ghost use Rattle.table.specs.Tables.{table_of, Good};
 ghost use Rattle.plans.specs.Plans.{Plans};
 
-use fields::{Answer, Refusal, Verdict};
+use fields::Refusal;
 use rows::Ticks;
 use table::Table;
 
 // The reply to an accepted table, or ROOM.
-fn plan_table(t: Table, out: &mut [u8]) -> Answer
+fn plan_table(t: Table, out: &mut [u8]) -> Result<usize, Refusal>
     requires { Good t }
     ensures { Plans (table_of t) out.old (leaving (answered result) out.new) }
 {
     let needed = 5 + 7 * t.count;
     if out.len() < needed {
-        return Answer::Denied(Refusal::Room(needed));
+        return Err(Refusal::Room(needed));
     }
     let q = period::smallest(t);
     replies::put_reply(out, t, Ticks(q));
-    Answer::Wrote(needed)
+    Ok(needed)
 }
 
 // A table's reply: its period and rows, from the front of the buffer. On a refusal every byte of it stays.
-pub fn plan(s: &[u8], out: &mut [u8]) -> Answer
+pub fn plan(s: &[u8], out: &mut [u8]) -> Result<usize, Refusal>
     ensures { IsPlan s.now out.old (leaving (answered result) out.new) }
 {
-    let judged = reading::read(s);
-    let verdict = judged.verdict;
-    match verdict {
-        Verdict::Refused(r) => Answer::Denied(r),
-        Verdict::Accepted => plan_table(judged.table, out),
-    }
+    let t = reading::read(s)?;
+    plan_table(t, out)
 }

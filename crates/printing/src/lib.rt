@@ -14,7 +14,7 @@ use words::Question;
 
 // ---- input and output
 
-// Reads until the buffer is full or the input ends: the number of bytes that were put at its front.
+// Reads until the buffer is full or the input ends: the number of bytes that were put at its front. (The library's read_to_end fills a Vec.)
 pub fn read_full<R: Read>(input: &mut R, buf: &mut [u8]) -> io::Result<usize>
     ensures { IfOk result (λ n. n ≤ length buf.new) }
 {
@@ -70,10 +70,9 @@ fn emit(rt: &HostRuntime, q: Question, s: &[u8], text: &[u8])
 
 // The text for a question about the bytes on standard input.
 pub fn print_answer(rt: &HostRuntime, q: Question, s: &[u8]) {
-    let t = planner::say(q, s);
-    let n = t.len;
-    let bytes = t.bytes;
-    emit(rt, q, s, &bytes[..n]);
+    let text = planner::say(q, s);
+    let counted = text.as_bytes();
+    emit(rt, q, s, counted);
 }
 
 // The text for a table's bytes.
@@ -91,7 +90,6 @@ fn emit_line(rt: &HostRuntime, r: Refusal, line: &[u8])
 // The line of a refusal.
 pub fn print_refusal(rt: &HostRuntime, r: Refusal) {
     let line = text::refusal_text(r);
-    let n = line.len;
-    let bytes = line.bytes;
-    emit_line(rt, r, &bytes[..n]);
+    let counted = line.as_bytes();
+    emit_line(rt, r, counted);
 }

@@ -2,8 +2,10 @@
 -- Assumes nothing.
 use Rattle.std.specs.Prelude.{ℕ, suc, ◌+◌, ◌*◌, ◌<◌, ◌≤◌, ◌≡◌, List, [], ◌∷◌, ◌++◌, length, get_or, take, drop, set}
 use Rattle.std.proofs.Common.{sym, ap, ◌∙◌, append_assoc, append-nil, zero-add, arith, add-one, take-suc, length-take-le}
+use Rattle.std.proofs.lemmas.List.{drop-drop}
 use Rattle.std.proofs.lemmas.List.Edits.{sets, sets-eq}
 use Rattle.std.proofs.Math.Seq.{length-sets}
+use borrow.Rule.Slice.PartMut.{put_mid}
 use Rattle.rules.specs.Bytes.{joined}
 use Rattle.theory.proofs.Bytes.{joined_length}
 use Rattle.puts.specs.Puts.{stored}
@@ -51,3 +53,9 @@ module _ {A : Type 0} (f : A → List ℕ) (w : ℕ) (width : (x : A) → length
 pub stored_front : (out bytes : List ℕ) → length bytes ≤ length out → stored out 0 bytes ≡ bytes ++ drop (length bytes) out
 unfolding stored
 stored_front out bytes h = sets-eq bytes out 0 (omega arith) ∙ rw zero-add
+
+-- bytes copied over a part of the buffer
+pub stored_over : (out : List ℕ) (at k : ℕ) {part bytes : List ℕ} → part ≡ bytes → k ≡ length bytes → at + length bytes ≤ length out
+    → put_mid at k out part ≡ stored out at bytes
+unfolding stored
+stored_over out at k {bytes = bytes} e n h = rw (e, n, sets-eq bytes out at h, drop-drop, append_assoc)

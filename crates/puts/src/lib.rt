@@ -18,8 +18,7 @@ pub fn put16(out: &mut [u8], at: usize, x: u32)
     requires { at + 2 ≤ length out.old }
     ensures { out.new ≡ stored out.old at (be16 x) }
 {
-    out[at] = (x / 256 % 256) as u8;
-    out[at + 1] = (x % 256) as u8;
+    out[at..at + 2].copy_from_slice(&x.to_be_bytes()[2..]);
 }
 
 // A number in four bytes.
@@ -27,10 +26,7 @@ pub fn put32(out: &mut [u8], at: usize, x: u32)
     requires { at + 4 ≤ length out.old }
     ensures { out.new ≡ stored out.old at (be32 x) }
 {
-    out[at] = (x / 16777216 % 256) as u8;
-    out[at + 1] = (x / 65536 % 256) as u8;
-    out[at + 2] = (x / 256 % 256) as u8;
-    out[at + 3] = (x % 256) as u8;
+    out[at..at + 4].copy_from_slice(&x.to_be_bytes());
 }
 
 // The header of a field: its tag, and the length of its value.

@@ -12,5 +12,5 @@ pub fn in_time(end: u32, start: u32, n: u32, bound: u32) -> u32
     if end <= start + (n + 1) * bound {
         return bound;
     }
-    (end - start + n) / (n + 1)
+    (end - start).div_ceil(n + 1)
 }

@@ -1,6 +1,6 @@
 -- An operation's numbers are judged by its dates, and where these are in range by its sets; numbers in range fit the code's.
 -- Assumes nothing.
-use Rattle.std.specs.Prelude.{ℕ, ◌+◌, ◌^◌, ◌<◌, ◌≤◌, ◌≡◌, refl, Bool}
+use Rattle.std.specs.Prelude.{ℕ, ◌+◌, ◌^◌, ◌<◌, ◌≤◌, ◌≡◌, refl, Bool, Option, None, Some, is_some, unwrap_or}
 use Rattle.std.proofs.Common.{sym, ◌∙◌, arith, pow_mono}
 use Rattle.std.proofs.Math.Bool.{true, false}
 use mathlib.Core.List.{List, [], ◌∷◌, ◌++◌}
@@ -11,7 +11,9 @@ use Rattle.theory.specs.Holds.{Plain}
 use Rattle.theory.proofs.Says.{Known, holds, fails, known}
 use Rattle.theory.proofs.Ranges.{wrong_here, wrong_later, dates_no_time, dates_late, dates_no_hold, dates_past}
 use Rattle.theory.proofs.Judging.{own_wrong, op_passed}
-use Rattle.ranges.specs.Ranges.{counted, dates_of, used_at, sets_of}
+use Rattle.std.proofs.lemmas.Bool.{true≢false}
+use Rattle.ranges.specs.declared.Wide.{Wide}
+use Rattle.ranges.specs.Ranges.{wide_of, counted, dates_of, used_at, sets_of}
 
 -- ---- numbers one after the other, in two parts
 
@@ -138,3 +140,11 @@ op_small T held o h l plain e =
       writes = small ok.writes l.1;
       modes = small ok.modes.small l.2;
     }
+
+-- where no hold is among the numbers, it is 0
+pub wide_plain : (w : Wide) → Plain (is_some w.hold) (wide_of w)
+wide_plain w e = go w.hold e
+  where
+    go : (h : Option ℕ) → is_some h ≡ false → unwrap_or h 0 ≡ 0
+    go None e = refl
+    go (Some x) e = absurd (true≢false e)

@@ -1,6 +1,6 @@
 -- How the judge goes on from the verdict on the fields, and what that verdict accepts.
 -- Assumes nothing.
-use Rattle.std.specs.Prelude.{ℕ, ◌≤◌, ◌≡◌, List, length}
+use Rattle.std.specs.Prelude.{ℕ, ◌≤◌, ◌≡◌, List, length, Result}
 use Rattle.std.proofs.Math.Path.{sym, subst}
 use Rattle.std.proofs.Common.{◌∙◌}
 use native.Mathlib.Omega.{arith}
@@ -10,7 +10,8 @@ use Rattle.rules.specs.Judge.{head_of, with_ops, with_decider, ops_place, ops_en
 use Rattle.theory.proofs.Verdicts.{then_first, then_rest, then_onwards, onwards_first, onwards_onwards, onwards_then, onwards_same}
 use Rattle.theory.proofs.Lengths.{modes_few}
 use Rattle.theory.proofs.Judging.{head_ok, says_decider, judge_row, behind_row, ops_ended, decider_passed}
-use Rattle.table.specs.declared.Judged.{Judged}
+use Rattle.fields.specs.declared.Refusal.{Refusal}
+use Rattle.table.specs.declared.Table as code
 use Rattle.table.specs.Tables.{JudgedAs, going_on, Tidy}
 use Rattle.table.specs.JudgedLaws.{judged_tidy, going_by}
 use Rattle.deciders.specs.Deciders.{behind_of}
@@ -36,12 +37,12 @@ module _ (s : List ℕ) where
       subst (λ (U : Table). Read U) same (record { words = head.words; few = modes_few H head.counts; inside = omega arith })
 
   -- what the code makes of the fields' verdict goes on as the fields' verdict does
-  pub fields_tidy : {r : Judged} → JudgedAs (fields_verdict s) r → Tidy r
-  fields_tidy j = judged_tidy j (λ T e. (fields_read T e).words)
+  pub fields_tidy : {r : Result code.Table Refusal} → JudgedAs (fields_verdict s) r → Tidy r
+  fields_tidy j = judged_tidy (λ T e. (fields_read T e).words) j
 
-  pub fields_behind : {r : Judged} → JudgedAs (fields_verdict s) r → going_on r (behind_of s) ≡ whole_verdict s
+  pub fields_behind : (r : Result code.Table Refusal) → JudgedAs (fields_verdict s) r → going_on r (behind_of s) ≡ whole_verdict s
   unfolding whole_verdict
-  fields_behind j = going_by j (λ T e. (fields_read T e).words) (behind_of s)
+  fields_behind r j = going_by (λ T e. (fields_read T e).words) (behind_of s) r j
 
   -- a table that all fields accept
   behind_fit : (T U : Table) → Read T → behind_of s T ≡ accepted U → Fit U
@@ -72,8 +73,8 @@ module _ (s : List ℕ) where
       ∙ sym (onwards_onwards _ (behind_of s) judge_whole)
 
   -- what the code makes of that verdict is the judge's
-  pub whole_ready : {r : Judged} → JudgedAs (whole_verdict s) r → Ready r
+  pub whole_ready : {r : Result code.Table Refusal} → JudgedAs (whole_verdict s) r → Ready r
   whole_ready j = ready_by j whole_fit
 
-  pub fields_whole : {r : Judged} → JudgedAs (whole_verdict s) r → judge s ≡ whole_on r
-  fields_whole j = judge_fields ∙ sym (whole_by j whole_fit)
+  pub fields_whole : (r : Result code.Table Refusal) → JudgedAs (whole_verdict s) r → judge s ≡ whole_on r
+  fields_whole r j = judge_fields ∙ sym (whole_by r j whole_fit)

@@ -14,9 +14,9 @@ use Rattle.reading_ops.specs.ReadingOps.{op_verdict}
 abbrev pub done_at : ℕ → List ℕ → ℕ → Bool
 done_at first s at = leb (length s) at || (ltb first at && eqb (num8 s at) 5)
 
--- one operation's field, by the length and the counts of the code's table, which holds the operations before this one
-abbrev pub next_verdict : code.Table → List ℕ → ℕ → Verdict Op
-next_verdict t s at = op_verdict (counted t.len t.boards t.cells t.modes) s (32 - t.count) at
+-- one operation's field, by the length and the counts of a table's head, when so many operations stand before this one
+abbrev pub next_verdict : code.Table → ℕ → List ℕ → ℕ → Verdict Op
+next_verdict h count s at = op_verdict (counted h.len h.boards h.cells h.modes) s (32 - count) at
 
 -- the operations behind the head, with the head
 unfoldable pub ops_verdict : List ℕ → Verdict Table

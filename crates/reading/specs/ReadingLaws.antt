@@ -1,6 +1,6 @@
 -- What each way out of the reading says: operations one after the other behind a head that passes.
 -- Assumes nothing.
-use Rattle.std.specs.Prelude.{ℕ, ◌+◌, ◌-◌, ◌*◌, ◌<◌, ◌≤◌, ◌≡◌, Bool, true, false, List, [], ◌∷◌, ◌++◌, leb}
+use Rattle.std.specs.Prelude.{ℕ, ◌+◌, ◌-◌, ◌*◌, ◌<◌, ◌≤◌, ◌≡◌, Bool, true, false, List, [], ◌∷◌, ◌++◌, leb, Ok}
 use Rattle.std.proofs.Math.Path.{refl, sym, ap}
 use Rattle.std.proofs.Common.{◌∙◌, append_assoc, append-nil, leb-true, leb-false}
 use native.Mathlib.Omega.{arith}
@@ -14,7 +14,6 @@ use Rattle.theory.proofs.Says.{Known, holds, fails, known, clash_bool}
 use Rattle.theory.proofs.Judging.{done_end}
 use Rattle.theory.proofs.Bytes.{no_field}
 use Rattle.fields.specs.declared.Refusal.{Refusal}
-use Rattle.fields.specs.declared.Verdict.TheVariants.{Accepted}
 use Rattle.fields.specs.Verdicts.{refusal_of}
 use Rattle.fields.specs.RefusalLaws.{onwards_refusal}
 use Rattle.fields.specs.FieldLaws.{repeat_whole, from_next}
@@ -85,6 +84,15 @@ module _ (s : List ℕ) (t : Table) (e : t ≡ table_in (head_of s)) where
       let place = ap (λ (n : ℕ). ops_from (head_of s) s 32 (18 + 4 * n)) head_modes in
       record { ops = []; few = omega arith; held = e; rest = sym (mores_none _ ∙ place) }
 
+-- the counts of the head are small
+pub head_few : {s : List ℕ} {t : Table} → t ≡ table_in (head_of s) → HeadFits s → (t.boards ≤ 32) × (t.cells ≤ 32) × (t.modes ≤ 32)
+unfolding head_of
+head_few {s} {t} e fits =
+    let boards : t.boards ≡ num8 s 8 = ap (λ (u : Table). u.boards) e in
+    let cells : t.cells ≡ num8 s 9 = ap (λ (u : Table). u.cells) e in
+    let modes : t.modes ≡ num8 s 10 = ap (λ (u : Table). u.modes) e in
+    (omega arith, omega arith, omega arith)
+
 -- where they end, by the place of the first
 pub done_is : (s : List ℕ) (first at : ℕ) {r : Bool} → first ≡ ops_place (head_of s).modes → r ≡ done_at first s at → ops_done (head_of s) s at ≡ r
 unfolding ops_done
@@ -99,38 +107,43 @@ done_inside s at e = go (known (leb (length s) at))
     go (fails b) = leb-false (length s) at b
 
 module _ {s : List ℕ} {t : Table} {at : ℕ} (so : SoFar s t at) where
-  -- the counts of the table are those of the head
+  -- it has as many operations as there may be at most
+  pub so_few : t.count ≤ 32
+  so_few = let count : t.count ≡ length so.ops = ap (λ (u : Table). u.count) so.held in omega (arith, so.few)
+
+  -- and its counts are those of the head
   pub so_fits : HeadFits s → (t.count ≤ 32) × (t.boards ≤ 32) × (t.cells ≤ 32) × (t.modes ≤ 32)
   unfolding head_of
   so_fits fits =
-      let count : t.count ≡ length so.ops = ap (λ (u : Table). u.count) so.held in
       let boards : t.boards ≡ num8 s 8 = ap (λ (u : Table). u.boards) so.held in
       let cells : t.cells ≡ num8 s 9 = ap (λ (u : Table). u.cells) so.held in
       let modes : t.modes ≡ num8 s 10 = ap (λ (u : Table). u.modes) so.held in
-      (omega arith, omega arith, omega arith, omega arith)
+      (so_few, omega arith, omega arith, omega arith)
 
   -- so the next field is judged by the table as it is by the head
-  so_same : next_verdict t s at ≡ op_verdict (head_of s) s (32 - length so.ops) at
+  so_same : {h : Table} → h ≡ table_in (head_of s) → next_verdict h t.count s at ≡ op_verdict (head_of s) s (32 - length so.ops) at
   unfolding op_verdict
-  so_same =
-      ap (λ (u : Table). next_verdict u s at) so.held
+  so_same {h} e =
+      ap (λ (u : Table). next_verdict u t.count s at) e
+      ∙ ap (λ (u : Table). next_verdict (table_in (head_of s)) u.count s at) so.held
       ∙ ap (λ (w : ℕ). repeat_test s at (32 - length so.ops) 4 (size_at s at) w then accepted (op_at s at)) (wrong_counted (head_of s) (held_at s at) (op_at s at))
 
   -- a field that is refused
-  pub so_bad : (r : Refusal) → ops_done (head_of s) s at ≡ false → refusal_of r ≡ next_verdict t s at → ops_verdict s ≡ refusal_of r
+  pub so_bad : {u : Table} → u ≡ table_in (head_of s) → (r : Refusal) → ops_done (head_of s) s at ≡ false
+      → refusal_of r ≡ next_verdict u t.count s at → ops_verdict s ≡ refusal_of r
   unfolding ops_verdict mores
-  so_bad r h e =
-      let next = ops_next (head_of s) s (32 - length so.ops) at h ∙ onwards_refusal r _ (sym (e ∙ so_same)) in
+  so_bad head r h e =
+      let next = ops_next (head_of s) s (32 - length so.ops) at h ∙ onwards_refusal r _ (sym (e ∙ so_same head)) in
       onwards_refusal r _ (so.rest ∙ onwards_refusal r _ next)
 
   -- one more operation
-  pub so_more : (o : Op) → ops_done (head_of s) s at ≡ false → accepted (op_of o) ≡ next_verdict t s at
-      → More s t at o
+  pub so_more : {u : Table} → u ≡ table_in (head_of s) → (o : Op) → ops_done (head_of s) s at ≡ false
+      → accepted (op_of o) ≡ next_verdict u t.count s at → More s t at o
   unfolding op_verdict
-  so_more o h e =
+  so_more head o h e =
       let H = head_of s in
       let os = so.ops in
-      let here = sym (e ∙ so_same) in
+      let here = sym (e ∙ so_same head) in
       let (whole, some) = repeat_whole 4 size_at (wrong_at H) op_at s (32 - length os) at (then_first _ _ here).1 in
       let count : t.count ≡ length os = ap (λ (u : Table). u.count) so.held in
       let few : length os < 32 = omega arith in
@@ -151,8 +164,20 @@ module _ {s : List ℕ} {t : Table} {at : ℕ} (so : SoFar s t at) where
         };
       }
 
+  -- the same where the code has found that they do not end yet, by the place of the first
+  module _ {u : Table} (head : u ≡ table_in (head_of s)) {first : ℕ} {r : Bool} (place : first ≡ ops_place (head_of s).modes)
+      (done : r ≡ done_at first s at) (going : r ≡ false) where
+    pub at_inside : at < length s
+    at_inside = done_inside s at (done_is s first at place done ∙ going)
+
+    pub next_bad : (r : Refusal) → refusal_of r ≡ next_verdict u t.count s at → ops_verdict s ≡ refusal_of r
+    next_bad r e = so_bad head r (done_is s first at place done ∙ going) e
+
+    pub next_more : (o : Op) → accepted (op_of o) ≡ next_verdict u t.count s at → More s t at o
+    next_more o e = so_more head o (done_is s first at place done ∙ going) e
+
   -- where they end
-  pub so_end : ops_done (head_of s) s at ≡ true → JudgedAs (ops_verdict s) (record { verdict = Accepted; table = t })
+  pub so_end : ops_done (head_of s) s at ≡ true → JudgedAs (ops_verdict s) (Ok t)
   unfolding ops_verdict mores
   so_end h =
       let os = so.ops in

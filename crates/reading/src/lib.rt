@@ -7,9 +7,9 @@ ghost use Rattle.rules.specs.Judge.{head_test, judge};
 ghost use Rattle.table.specs.Tables.{JudgedAs};
 ghost use Rattle.reading.specs.Reading.{done_at, ops_verdict, fields_verdict};
 
-use fields::Verdict;
-use reading_ops::Next;
-use table::Judged;
+use fields::Refusal;
+use ranges::Counts;
+use table::Table;
 
 // ---- the operations
 
@@ -28,32 +28,27 @@ fn ops_done(s: &[u8], at: usize, first: usize) -> bool
 
 // The operations up to where they end, behind a head that is judged: from field to field by each one's own length. Each is stored where it belongs: the
 // table is not copied for it.
-fn read_ops(s: &[u8]) -> Judged
+fn read_ops(s: &[u8]) -> Result<Table, Refusal>
     requires { head_test s.now ≡ accepted tt }
     ensures { JudgedAs (ops_verdict s.now) result }
 {
     let mut t = heads::read_head(s);
+    let counts = Counts {
+        len: t.len,
+        boards: t.boards,
+        cells: t.cells,
+        modes: t.modes,
+    };
     let first = table::ops_place(t.modes);
     let mut at = first;
     while !ops_done(s, at, first) {
         let k = t.count;
         let held = reading_ops::held_at(s, at);
-        let next = reading_ops::next_op(s, at, held, 32 - k, t.len, t.boards, t.cells, t.modes);
-        match next {
-            Next::Bad(r) => {
-                return table::deny(r);
-            }
-            Next::Here(o) => {
-                t.ops[k] = o;
-                t.count = k + 1;
-            }
-        }
+        t.ops[k] = reading_ops::next_op(s, at, held, 32 - k, counts)?;
+        t.count = k + 1;
         at += 3 + widths::size(held);
     }
-    Judged {
-        verdict: Verdict::Accepted,
-        table: t,
-    }
+    Ok(t)
 }
 
 // ---- the whole input
@@ -61,20 +56,17 @@ fn read_ops(s: &[u8]) -> Judged
 // The table that the bytes hold up to its operations, if every field passes.
 // Not put into its caller, so that its tables are off the stack again before the whole is judged.
 #[inline(never)]
-fn read_fields(s: &[u8]) -> Judged
+fn read_fields(s: &[u8]) -> Result<Table, Refusal>
     ensures { JudgedAs (fields_verdict s.now) result }
 {
-    let v = heads::head_test(s);
-    if let Verdict::Refused(r) = v {
-        return table::deny(r);
-    }
+    heads::head_test(s)?;
     read_ops(s)
 }
 
 // The table that the bytes hold, or the first refusal of all.
 // Nor this, so that they are before the engine runs.
 #[inline(never)]
-pub fn read(s: &[u8]) -> Judged
+pub fn read(s: &[u8]) -> Result<Table, Refusal>
     ensures { JudgedAs (judge s.now) result }
 {
     whole::judge(deciders::read(s, read_fields(s)))

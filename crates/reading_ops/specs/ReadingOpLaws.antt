@@ -5,13 +5,12 @@ use Rattle.std.proofs.Common.{sym, ◌∙◌, arith, ne_eqb}
 use Rattle.std.proofs.Math.Path.{ap}
 use Rattle.std.proofs.Math.ListN.{get_or-eq_default}
 use Rattle.rules.specs.Table.{Op, Table}
-use Rattle.rules.specs.Verdicts.{accepted, refused, RANGE, ◌then◌}
+use Rattle.rules.specs.Verdicts.{accepted, ◌then◌}
 use Rattle.rules.specs.Bytes.{num16, num32, op_size, held_at, read_op, op_at}
 use Rattle.rules.specs.Judge.{ranged, op_wrong, size_at, wrong_at}
 use Rattle.theory.specs.Holds.{Plain}
-use Rattle.theory.proofs.Verdicts.{then_accepts, then_refuses}
-use Rattle.theory.proofs.Ranges.{ranged_yes, ranged_no}
 use Rattle.theory.proofs.Says.{clash_bool}
+use Rattle.theory.proofs.Verdicts.{then_accepts}
 use Rattle.fields.specs.declared.Refusal.{Refusal}
 use Rattle.fields.specs.Verdicts.{refusal_of}
 use Rattle.fields.specs.RefusalLaws.{then_refusal}
@@ -70,8 +69,8 @@ module _ (s : List ℕ) (at : ℕ) {held : Bool} (form : held ≡ held_at s at) 
   unfolding op_at
   form_read e = e ∙ ap (λ (b : Bool). read_op b s at) form
 
-  pub form_judged : (T : Table) {w : Op} {has : Bool} {wrong : ℕ} → wrong ≡ op_wrong T has w → has ≡ held → w ≡ read_op held s at → wrong_at T s at ≡ wrong
-  form_judged T {w} e h r = sym (e ∙ ap (λ (b : Bool). op_wrong T b w) (h ∙ form) ∙ ap (λ (o : Op). op_wrong T (held_at s at) o) (form_read r))
+  pub form_judged : (T : Table) {w : Op} {has : Bool} → has ≡ held → w ≡ read_op held s at → op_wrong T has w ≡ wrong_at T s at
+  form_judged T {w} h r = ap (λ (b : Bool). op_wrong T b w) (h ∙ form) ∙ ap (λ (o : Op). op_wrong T (held_at s at) o) (form_read r)
 
 -- ---- its verdict
 module _ (T : Table) (s : List ℕ) (left at : ℕ) {size : ℕ} (z : size ≡ size_at s at) where
@@ -87,8 +86,8 @@ module _ (T : Table) (s : List ℕ) (left at : ℕ) {size : ℕ} (z : size ≡ s
     op_first : (repeat_of s at left 4 size then ranged (wrong_at T s at) at) ≡ ranged (wrong_at T s at) at
     op_first = then_accepts _ (sym e)
 
-    pub op_range : {wrong : ℕ} → wrong_at T s at ≡ wrong → (wrong ≡ 0 → ⊥) → refused RANGE at (at + wrong) ≡ op_verdict T s left at
-    op_range {wrong} e n = sym (op_split ∙ then_refuses _ (op_first ∙ ap (λ (w : ℕ). ranged w at) e ∙ ranged_no wrong at n))
+    pub op_range : (r : Refusal) → refusal_of r ≡ ranged (wrong_at T s at) at → refusal_of r ≡ op_verdict T s left at
+    op_range r e = sym (op_split ∙ then_refusal r _ (op_first ∙ sym e))
 
-    pub op_fine : wrong_at T s at ≡ 0 → accepted (op_at s at) ≡ op_verdict T s left at
-    op_fine h = sym (op_split ∙ then_accepts _ (op_first ∙ ranged_yes _ at h))
+    pub op_fine : accepted tt ≡ ranged (wrong_at T s at) at → accepted (op_at s at) ≡ op_verdict T s left at
+    op_fine h = sym (op_split ∙ then_accepts _ (op_first ∙ sym h))

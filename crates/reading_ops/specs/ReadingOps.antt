@@ -1,14 +1,14 @@
 -- The verdict on one operation's field, with the operation.
 -- Assumes nothing.
-use Rattle.std.specs.Prelude.{ℕ, ◌+◌, Bool, cond, List}
+use Rattle.std.specs.Prelude.{ℕ, ◌+◌, Bool, cond, List, Result, Ok, Err}
 use Rattle.rules.specs.Table.{Op, Table}
 use Rattle.rules.specs.Verdicts.{Verdict, accepted, ◌then◌}
 use Rattle.rules.specs.Bytes.{num16, op_at}
 use Rattle.rules.specs.Judge.{repeat_test, size_at, wrong_at}
 use Rattle.fields.specs.Verdicts.{refusal_of}
+use Rattle.fields.specs.declared.Refusal.{Refusal}
+use Rattle.table.specs.declared.Op as code
 use Rattle.table.specs.Tables.{op_of}
-use Rattle.reading_ops.specs.declared.Next.{Next}
-use Rattle.reading_ops.specs.declared.Next.TheVariants.{Here, Bad}
 
 -- the hold in a field of either form
 abbrev pub hold_in : Bool → List ℕ → ℕ → ℕ
@@ -19,6 +19,6 @@ unfoldable pub op_verdict : Table → List ℕ → ℕ → ℕ → Verdict Op
 op_verdict T s left at = repeat_test s at left 4 (size_at s at) (wrong_at T s at) then accepted (op_at s at)
 
 -- the code's answer to it
-abbrev pub next_of : Next → Verdict Op
-next_of (Here o) = accepted (op_of o)
-next_of (Bad r) = refusal_of r
+abbrev pub op_told : Result code.Op Refusal → Verdict Op
+op_told (Ok o) = accepted (op_of o)
+op_told (Err r) = refusal_of r

@@ -1,21 +1,14 @@
 // One operation's field in a table's bytes: its form, which its length tells, its numbers, and whether they are in range.
 #![tactic(auto)]
 
-ghost use Rattle.std.specs.Prelude.{◌≡◌, ◌+◌, ◌<◌, ◌≤◌, length};
+ghost use Rattle.std.specs.Prelude.{◌≡◌, ◌+◌, ◌<◌, ◌≤◌, length, is_some, unwrap_or};
 ghost use Rattle.rules.specs.Bytes.{op_size, held_at, read_op};
-ghost use Rattle.ranges.specs.Ranges.{wide_of, counted};
-ghost use Rattle.reading_ops.specs.ReadingOps.{hold_in, next_of, op_verdict};
+ghost use Rattle.ranges.specs.Ranges.{wide_of, sized};
+ghost use Rattle.reading_ops.specs.ReadingOps.{hold_in, op_told, op_verdict};
 
-use fields::{Refusal, Verdict};
-use ranges::Wide;
+use fields::Refusal;
+use ranges::{Counts, Wide};
 use table::Op;
-
-// The next operation, or why there is none.
-#[derive(Clone, Copy)]
-pub enum Next {
-    Here(Op),
-    Bad(Refusal),
-}
 
 // Whether the field at a place has the length of one with a hold; where its header is cut it has none.
 pub fn held_at(s: &[u8], at: usize) -> bool
@@ -28,27 +21,27 @@ pub fn held_at(s: &[u8], at: usize) -> bool
     fields::be16(s, at + 1) == 20
 }
 
-// The hold of the operation's field at a place, 0 where it has none.
-fn hold_at(s: &[u8], at: usize, held: bool) -> u64
+// The hold of the operation's field at a place, in the form that has one.
+fn hold_at(s: &[u8], at: usize, held: bool) -> Option<u64>
     requires { at + 21 ≤ length s.now }
-    ensures { result ≡ hold_in held s.now at }
+    ensures { (is_some result ≡ held) × (unwrap_or result 0 ≡ hold_in held s.now at) }
 {
     if held {
-        return fields::be16(s, at + 7) as u64;
+        Some(fields::be16(s, at + 7) as u64)
+    } else {
+        None
     }
-    0
 }
 
 // The numbers of the operation's field at a place; its sets stand behind the duration, or behind the hold.
 fn read_op(s: &[u8], at: usize, held: bool) -> Wide
     requires { at + 3 + op_size held ≤ length s.now }
-    ensures { (wide_of result ≡ read_op held s.now at) × (result.held ≡ held) }
+    ensures { (wide_of result ≡ read_op held s.now at) × (is_some result.hold ≡ held) }
 {
     let sets = at + ranges::used_place(held);
     Wide {
         start: fields::be16(s, at + 3) as u64,
         dur: fields::be16(s, at + 5) as u64,
-        held,
         hold: hold_at(s, at, held),
         boards: fields::be16(s, sets) as u64,
         reads: fields::be32(s, sets + 2) as u64,
@@ -58,27 +51,13 @@ fn read_op(s: &[u8], at: usize, held: bool) -> Wide
 }
 
 // The field of this form at a place inside the input, when `left` more operations may come, in a table of this length and these counts.
-pub fn next_op(
-    s: &[u8],
-    at: usize,
-    held: bool,
-    left: usize,
-    len: u32,
-    boards: u32,
-    cells: u32,
-    modes: u32,
-) -> Next
-    requires { (at < length s.now) × (held ≡ held_at s.now at) × (boards ≤ 32) × (cells ≤ 32) × (modes ≤ 32) }
-    ensures { next_of result ≡ op_verdict (counted len boards cells modes) s.now left at }
+pub fn next_op(s: &[u8], at: usize, held: bool, left: usize, counts: Counts) -> Result<Op, Refusal>
+    requires { (at < length s.now) × (held ≡ held_at s.now at) }
+    ensures { op_told result ≡ op_verdict (sized counts) s.now left at }
 {
-    let v = reader::repeated_at(s, at, left, 4, widths::size(held));
-    if let Verdict::Refused(r) = v {
-        return Next::Bad(r);
-    }
+    reader::repeated_at(s, at, left, 4, widths::size(held))?;
     let w = read_op(s, at, held);
-    let wrong = ranges::wide_wrong(len, boards, cells, modes, w);
-    if wrong != 0 {
-        return Next::Bad(Refusal::Range(at, at + wrong));
-    }
-    Next::Here(ranges::narrow(len, boards, cells, modes, w))
+    let wrong = ranges::wide_wrong(counts, w);
+    fields::range_test(wrong, at)?;
+    Ok(ranges::narrow(counts, w))
 }

@@ -1,7 +1,11 @@
 -- How entries are raised one after the other, and what becomes of a row: what comes fresh, what is handed on, and when nothing is new.
 -- Assumes nothing.
-use Rattle.std.specs.Prelude.{ℕ, ◌+◌, ◌-◌, ◌*◌, ◌%◌, ◌^◌, ◌<◌, ◌≤◌, max, ◌≡◌, refl, Bool, true, false, cond, List, ◌⊎◌, length, get_or, set, replicate}
-use Rattle.std.proofs.Common.{subst, ◌∙◌, inl, inr, arith, length-set, get_or-set_same, get_or-set_other}
+use Rattle.std.specs.Prelude.{ℕ, zero, suc, ◌+◌, ◌-◌, ◌*◌, ◌%◌, ◌^◌, ◌<◌, ◌≤◌, max, ◌≡◌, refl, Bool, true, false, cond, List, ◌⊎◌, length, get_or, set, replicate, take}
+use Rattle.std.specs.List.{sum_by}
+use Rattle.std.proofs.lemmas.List.{take_all}
+use Rattle.std.proofs.lemmas.List.Sums.{sum_by_more}
+use native.Mathlib.Numerals.{add-one}
+use Rattle.std.proofs.Common.{sym, ap, subst, ◌∙◌, inl, inr, arith, length-set, get_or-set_same, get_or-set_other}
 use Rattle.std.proofs.Math.Path.{subst⁻¹}
 use Rattle.std.proofs.Math.Decide.{ℕ_discrete}
 use Rattle.std.proofs.lemmas.List.{get_or-replicate}
@@ -181,6 +185,16 @@ entries row b = get_or row b 0
 
 pub low_sum : (row : List ℕ) (n : ℕ) → Low row n → sum (entries row) n ≤ n * 1000
 low_sum row n low = sum_most (entries row) n 1000 low
+
+-- the sum of a row as it is added up
+sum_front : (row : List ℕ) (n : ℕ) → n ≤ length row → sum_by (λ x. x) (take n row) ≡ sum (entries row) n
+unfolding sum
+sum_front row zero h = refl
+sum_front row (suc n) h =
+    rw add-one at (sum_by_more (λ x. x) row n 0 (omega arith)) ∙ ap (λ (m : ℕ). m + get_or row n 0) (sum_front row n (omega arith))
+
+pub sum_row : (row : List ℕ) → length row ≡ 32 → sum_by (λ x. x) row ≡ sum (entries row) 32
+sum_row row long = ap (sum_by (λ x. x)) (sym (take_all 32 row (omega arith))) ∙ sum_front row 32 (omega arith)
 
 -- the row was passed on any number of times
 pub record Settling (follow : List ℕ) (idle q : ℕ) (old new : List ℕ) : Type 0 where

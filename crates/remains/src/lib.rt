@@ -1,33 +1,22 @@
 // A row: for each mode the most ticks that are left of a use when a cycle of that mode starts, made of what waits in the ring.
 #![tactic(auto)]
 
-ghost use Rattle.std.specs.Prelude.{◌≡◌, ℕ, ◌-◌, ◌<◌, max, length, get_or};
+ghost use Rattle.std.specs.Prelude.{◌≡◌, ℕ, ◌-◌, ◌<◌, length, get_or};
 ghost use Rattle.rules.specs.Places.{sum};
 ghost use Rattle.rules.specs.Table.{Table, Accepted};
 ghost use Rattle.lives.specs.Left.{Low, IsRow};
 ghost use Rattle.remains.specs.Remains.{Lifted, Spread, PassedOn, Settled, FollowsOf, IdleOf, RingOf};
 
-// The larger of two numbers.
-fn larger(a: u32, b: u32) -> u32
-    ensures { result ≡ max a b }
-{
-    if a < b {
-        return b;
-    }
-    a
-}
+use sets::Members;
 
 // The entries of a set of modes, raised to a number.
 fn raise(row: &mut [u32; 32], modes: u32, x: u32)
     requires { length row.old ≡ 32 }
     ensures { Lifted modes x row.old row.new }
 {
-    let mut left = modes;
-    while left != 0 {
-        let m = sets::lowest(left);
+    for m in Members(modes) {
         let i = m as usize;
-        row[i] = larger(row[i], x);
-        left = sets::rest(left, m);
+        row[i] = row[i].max(x);
     }
 }
 
@@ -48,10 +37,8 @@ fn spread(ring: &[u32; 1056], slot: usize, follow: &[u32; 32], q: u32) -> [u32; 
     ensures { (length result ≡ 32) × Low result 32 × Spread ring.now slot follow.now q 32 result }
 {
     let mut row = [0u32; 32];
-    let mut m: usize = 0;
-    while m < 32 {
-        hand_on(&mut row, follow[m], ring[32 * slot + m], q);
-        m += 1;
+    for (m, modes) in follow.iter().enumerate() {
+        hand_on(&mut row, *modes, ring[32 * slot + m], q);
     }
     row
 }
@@ -61,13 +48,7 @@ fn total(row: &[u32; 32]) -> u32
     requires { Low row.now 32 }
     ensures { result ≡ sum (λ b. get_or row.now b 0) 32 }
 {
-    let mut all: u32 = 0;
-    let mut m: usize = 0;
-    while m < 32 {
-        all += row[m];
-        m += 1;
-    }
-    all
+    row.iter().sum()
 }
 
 // The modes that write nothing hand on what they have, less a period: once round.
@@ -75,13 +56,10 @@ fn pass(row: &mut [u32; 32], follow: &[u32; 32], idle: u32, q: u32)
     requires { (length row.old ≡ 32) × Low row.old 32 }
     ensures { PassedOn follow.now idle q row.old row.new }
 {
-    let mut left = idle;
-    while left != 0 {
-        let m = sets::lowest(left);
+    for m in Members(idle) {
         let i = m as usize;
         let x = row[i];
         hand_on(row, follow[i], x, q);
-        left = sets::rest(left, m);
     }
 }
 

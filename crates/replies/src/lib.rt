@@ -17,11 +17,9 @@ fn put_row(out: &mut [u8], at: usize, r: Row)
     requires { at + 7 ≤ length out.old }
     ensures { out.new ≡ stored out.old at (row_bytes (row_of r)) }
 {
-    let start = r.start.0;
-    let fst = r.fst.0;
     puts::put_header(out, at, 18, 4);
-    puts::put16(out, at + 3, start);
-    puts::put16(out, at + 5, fst);
+    puts::put16(out, at + 3, r.start.0);
+    puts::put16(out, at + 5, r.fst.0);
 }
 
 // The row of an operation of the table.
@@ -29,8 +27,7 @@ pub fn row_of(t: Table, i: usize, q: Ticks) -> Row
     requires { Good t × (i < t.count) × (1 ≤ q.0) × (q.0 ≤ t.len) }
     ensures { row_of result ≡ row_in (table_of t) q.0 i }
 {
-    let start = t.ops[i].start;
-    rows::fold(q, Ticks(start))
+    rows::fold(q, Ticks(t.ops[i].start))
 }
 
 // The rows of the table at the period q, behind the field of the period.
@@ -38,11 +35,9 @@ fn put_rows(out: &mut [u8], t: Table, q: Ticks)
     requires { Good t × (1 ≤ q.0) × (q.0 ≤ t.len) × (5 + 7 * t.count ≤ length out.old) }
     ensures { out.new ≡ stored out.old 5 (joined row_bytes (reply_of (table_of t) q.0).rows) }
 {
-    let mut i: usize = 0;
-    while i < t.count {
+    for i in 0..t.count {
         let r = row_of(t, i, q);
         put_row(out, 5 + 7 * i, r);
-        i += 1;
     }
 }
 

@@ -10,9 +10,7 @@ pub fn offer(ring: &mut [u32; 1056], at: usize, x: u32)
     requires { (at < 1056) × (length ring.old ≡ 1056) }
     ensures { ring.new ≡ set ring.old at (max (get_or ring.old at 0) x) }
 {
-    if ring[at] < x {
-        ring[at] = x;
-    }
+    ring[at] = ring[at].max(x);
 }
 
 // The row that stands so far round.
@@ -41,9 +39,7 @@ pub fn carry(ring: &mut [u32; 1056], row: &[u32; 32], counts: &[u32; 32], slot: 
     requires { (slot < 33) × Few counts.now × (length ring.old ≡ 1056) }
     ensures { Carried row.now counts.now slot 32 ring.old ring.new }
 {
-    let mut m: usize = 0;
-    while m < 32 {
-        carry_mode(ring, m, slot, counts[m] as usize, row[m]);
-        m += 1;
+    for (m, left) in row.iter().enumerate() {
+        carry_mode(ring, m, slot, counts[m] as usize, *left);
     }
 }

@@ -4,13 +4,11 @@
 ghost use Rattle.std.specs.Prelude.{◌≡◌, ◌++◌, ◌+◌, ◌≤◌, nat_abs, length};
 ghost use Rattle.rules.specs.Text.{told, yes_no_line, margin_word, signed, margin_line, gap_line, longest_text};
 ghost use Rattle.rules.specs.Words.{askable};
-ghost use Rattle.questions.specs.Questions.{truth_of, found_of};
-ghost use Rattle.margins.specs.Margins.{measured_of};
+ghost use Rattle.fields.specs.Verdicts.{answered};
 ghost use Rattle.lines.specs.Lines.{Puts};
 ghost use Rattle.text.specs.Texts.{text_in};
 
-use margins::Measured;
-use questions::{Found, Truth};
+use fields::Refusal;
 use text::{LONGEST, Text};
 
 // Bytes as a text.
@@ -34,24 +32,20 @@ fn yes_no_text(said: bool) -> Text
 }
 
 // The answer to a question of yes or no.
-pub fn truth_text(x: Truth) -> Text
-    ensures { result ≡ text_in (told yes_no_line (truth_of x)) }
+pub fn truth_text(x: Result<bool, Refusal>) -> Text
+    ensures { result ≡ text_in (told yes_no_line (answered x)) }
 {
     match x {
-        Truth::Is(said) => yes_no_text(said),
-        Truth::Denied(r) => text::refusal_text(r),
+        Ok(said) => yes_no_text(said),
+        Err(r) => text::refusal_text(r),
     }
 }
 
-// A margin without its sign. It is widened first: the opposite of the least number of 32 bits is none of them.
+// A margin without its sign.
 fn unsigned(m: i32) -> u64
     ensures { result ≡ nat_abs m }
 {
-    let wide = m as i64;
-    if wide < 0 {
-        return (0 - wide) as u64;
-    }
-    wide as u64
+    m.unsigned_abs() as u64
 }
 
 // "margin m" without its end, 18 bytes at most: "a minus sign where it is negative"
@@ -77,12 +71,12 @@ fn margin_text(m: i32) -> Text
 }
 
 // The answer to a question about a margin.
-pub fn measured_text(x: Measured) -> Text
-    ensures { result ≡ text_in (told margin_line (measured_of x)) }
+pub fn measured_text(x: Result<i32, Refusal>) -> Text
+    ensures { result ≡ text_in (told margin_line (answered x)) }
 {
     match x {
-        Measured::Margin(m) => margin_text(m),
-        Measured::Denied(r) => text::refusal_text(r),
+        Ok(m) => margin_text(m),
+        Err(r) => text::refusal_text(r),
     }
 }
 
@@ -97,12 +91,12 @@ fn gap_line(g: u32) -> Text
 }
 
 // The answer to the question for the gap.
-pub fn gap_text(x: Found) -> Text
-    ensures { result ≡ text_in (told gap_line (found_of x)) }
+pub fn gap_text(x: Result<u32, Refusal>) -> Text
+    ensures { result ≡ text_in (told gap_line (answered x)) }
 {
     match x {
-        Found::Ticks(g) => gap_line(g),
-        Found::Denied(r) => text::refusal_text(r),
+        Ok(g) => gap_line(g),
+        Err(r) => text::refusal_text(r),
     }
 }
 

@@ -6,7 +6,9 @@ ghost use Rattle.std.specs.Int.Bits.{bit_or};
 ghost use Rattle.rules.specs.Sets.{has, shares};
 ghost use Rattle.rules.specs.Judge.{set_ok};
 ghost use Rattle.theory.specs.Tests.{without, step};
+ghost use Rattle.std.specs.Iterator.{at_most};
 ghost use Rattle.sets.specs.Members.{IsLowest};
+ghost use Rattle.sets.specs.Walks.{IsNext};
 
 // s and t share a member
 pub fn meets(s: u32, t: u32) -> bool
@@ -54,7 +56,7 @@ pub fn lowest(s: u32) -> u32
     requires { 0 < s }
     ensures { IsLowest s result }
 {
-    u32::trailing_zeros(s)
+    s.trailing_zeros()
 }
 
 // s without m: what a walk over the members has left
@@ -73,15 +75,32 @@ pub fn with(s: u32, m: u32) -> u32
     s | (1u32 << m)
 }
 
+// The members of a set, one after the other, the lowest first.
+#[derive(Drop)]
+pub struct Members(pub u32);
+
+impl Iterator for Members {
+    type Item = u32;
+
+    ghost next_gives = { IsNext };
+
+    ghost remaining = { λ left. at_most left.0 };
+
+    fn next(&mut self) -> Option<u32> {
+        if self.0 == 0 {
+            return None;
+        }
+        let m = lowest(self.0);
+        self.0 = rest(self.0, m);
+        Some(m)
+    }
+}
+
 // what the words have for mode m: nothing where they end before it
 fn word(words: &[u32], m: u32) -> u32
     ensures { result ≡ get_or words.now m 0 }
 {
-    let i = m as usize;
-    if i < words.len() {
-        return words[i];
-    }
-    0
+    words.get(m as usize).copied().unwrap_or(0)
 }
 
 // one turn of a set of modes: all that follows a mode of s, where follow[m] is the set of the followers of mode m. Only the members of s are
@@ -90,11 +109,8 @@ pub fn step(follow: &[u32], s: u32) -> u32
     ensures { result ≡ step follow.now s }
 {
     let mut all: u32 = 0;
-    let mut left = s;
-    while left != 0 {
-        let m = lowest(left);
-        all = all | word(follow, m);
-        left = rest(left, m);
+    for m in Members(s) {
+        all |= word(follow, m);
     }
     all
 }

@@ -103,10 +103,6 @@ module _ (s : List ℕ) where
 
 -- ---- the starts
 
--- a period and a row that are as the bytes have them give the start that the bytes have
-pub same_start : (s : List ℕ) (at : ℕ) {q : Ticks} {r : Row} → q ≡ ticks (num16 s 3) → r ≡ row_at s at → unfold_at q r ≡ unfold_at (ticks (num16 s 3)) (row_at s at)
-same_start s at {q} {r} e f = ap (λ (p : Ticks). unfold_at p r) e ∙ ap (unfold_at (ticks (num16 s 3))) f
-
 -- the bytes of a start
 abbrev start_bytes_lem : Ticks → List ℕ
 start_bytes_lem t = be16 t.number
@@ -174,3 +170,7 @@ module _ (s out : List ℕ) where
   unfold_accepted w e f =
       let (R, read) = heard_reply s e in
       f R read ∙ sym (ap (λ (v : Verdict Reply). written (bytes_of (λ R. starts_bytes (starts_of R)) v) out) read)
+
+-- a period and a row that are as the bytes have them give the start that the bytes have
+pub same_start : (s : List ℕ) (at : ℕ) {q : Ticks} {r : Row} → q ≡ ticks (num16 s 3) → r ≡ row_at s at → unfold_at q r ≡ unfold_at (ticks (num16 s 3)) (row_at s at)
+same_start s at {q} {r} e f = ap (λ (p : Ticks). unfold_at p r) e ∙ ap (unfold_at (ticks (num16 s 3))) f

@@ -9,7 +9,7 @@ ghost use Rattle.table.specs.Tables.{table_of, Good};
 ghost use Rattle.puts.specs.Puts.{stored};
 ghost use Rattle.stores.specs.Stores.{Stores};
 
-use fields::{Answer, Refusal, Verdict};
+use fields::Refusal;
 use table::Table;
 
 // The first n numbers, 2 bytes each, from the front of the buffer.
@@ -17,37 +17,31 @@ fn put_places(out: &mut [u8], rs: &[u32; 32], n: usize)
     requires { (n ≤ 32) × (length rs.now ≡ 32) × (2 * n ≤ length out.old) }
     ensures { out.new ≡ stored out.old 0 (places_bytes (take n rs.now)) }
 {
-    let mut c: usize = 0;
-    while c < n {
+    for c in 0..n {
         puts::put16(out, 2 * c, rs[c]);
-        c += 1;
     }
 }
 
 // The places of an accepted table's cells, or ROOM.
-fn store_table(t: Table, out: &mut [u8]) -> Answer
+fn store_table(t: Table, out: &mut [u8]) -> Result<usize, Refusal>
     requires { Good t }
     ensures { Stores (table_of t) out.old (leaving (answered result) out.new) }
 {
     let cells = t.cells as usize;
     let needed = 2 * cells;
     if out.len() < needed {
-        return Answer::Denied(Refusal::Room(needed));
+        return Err(Refusal::Room(needed));
     }
     let q = period::smallest(t);
     let rs = places::each(t, q);
     put_places(out, &rs, cells);
-    Answer::Wrote(needed)
+    Ok(needed)
 }
 
 // The places of a table's cells at its period, 2 bytes each. On a refusal every byte of the buffer stays.
-pub fn places(s: &[u8], out: &mut [u8]) -> Answer
+pub fn places(s: &[u8], out: &mut [u8]) -> Result<usize, Refusal>
     ensures { IsStored s.now out.old (leaving (answered result) out.new) }
 {
-    let judged = reading::read(s);
-    let verdict = judged.verdict;
-    match verdict {
-        Verdict::Refused(r) => Answer::Denied(r),
-        Verdict::Accepted => store_table(judged.table, out),
-    }
+    let t = reading::read(s)?;
+    store_table(t, out)
 }

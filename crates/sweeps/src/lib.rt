@@ -7,11 +7,13 @@ ghost use Rattle.columns.specs.Columns.{Short};
 ghost use Rattle.marks.specs.Marks.{Adds, Keeps, HitBy};
 ghost use Rattle.sweeps.specs.Sweeps.{modes_after, AllKept, HitAny, FirstUnmarked};
 
+use columns::Dated;
+
 // The periods from q on at which one of a set wants a board of operation i, n + 1 cycles later, as the row says; `reached` has the modes that
 // a run can reach. Those of the set that still count are given back.
 fn mark_set(
-    wrong: &mut [u8; 1000],
-    cols: &[u32; 224],
+    wrong: &mut [bool; 1000],
+    cols: &[Dated; 32],
     row: &[u32; 32],
     reached: u32,
     i: usize,
@@ -32,9 +34,9 @@ fn mark_set(
 
 // The same for every operation, with its own set.
 pub fn mark_distance(
-    wrong: &mut [u8; 1000],
+    wrong: &mut [bool; 1000],
     later: &mut [u32; 32],
-    cols: &[u32; 224],
+    cols: &[Dated; 32],
     row: &[u32; 32],
     reached: u32,
     n: u32,
@@ -44,24 +46,20 @@ pub fn mark_distance(
     ensures { (length later.new ≡ 32) × AllKept cols.now n q 32 later.old later.new
         × Adds wrong.old (λ x. (q ≤ x) × HitAny cols.now row.now reached n later.old 32 x) wrong.new }
 {
-    let mut i: usize = 0;
-    while i < 32 {
-        later[i] = mark_set(wrong, cols, row, reached, i, later[i], n, q);
-        i += 1;
+    for (i, set) in later.iter_mut().enumerate() {
+        *set = mark_set(wrong, cols, row, reached, i, *set, n, q);
     }
 }
 
 // The first period from q on that is not marked, and the table's length if all are.
-pub fn first_unmarked(wrong: &[u8; 1000], len: u32, q: u32) -> u32
+pub fn first_unmarked(wrong: &[bool; 1000], len: u32, q: u32) -> u32
     requires { (len ≤ 1000) × (q ≤ len) }
     ensures { FirstUnmarked wrong.now len q result }
 {
-    let mut x = q;
-    while x < len {
-        if wrong[x as usize] != 1 {
+    for x in q..len {
+        if !wrong[x as usize] {
             return x;
         }
-        x += 1;
     }
-    x
+    len
 }

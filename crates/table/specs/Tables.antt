@@ -1,17 +1,15 @@
 -- The code's tables as the rules' tables, and the other way.
 -- Assumes nothing.
-use Rattle.std.specs.Prelude.{ℕ, ◌+◌, ◌-◌, ◌≡◌, List, ◌++◌, map, length, take, set, replicate}
+use Rattle.std.specs.Prelude.{ℕ, ◌+◌, ◌-◌, ◌≡◌, List, ◌++◌, map, length, take, set, replicate, Option, Some, None, Result}
+use Rattle.std.specs.Result.{ForOk}
 use Rattle.rules.specs.Table as rules
 use Rattle.rules.specs.Table.{nops}
-use Rattle.rules.specs.Verdicts.{accepted, refused, onwards}
+use Rattle.rules.specs.Verdicts.{accepted, onwards}
 use Rattle.rules.specs.Verdicts as verdicts
-use Rattle.fields.specs.Verdicts.{tested, verdict_on}
-use Rattle.fields.specs.declared.Verdict.TheVariants.{Accepted}
+use Rattle.fields.specs.declared.Refusal.{Refusal}
+use Rattle.fields.specs.Verdicts.{answered}
 use Rattle.table.specs.declared.Op.{Op}
-use Rattle.table.specs.declared.Decider.{Decider}
-use Rattle.table.specs.declared.Decider.TheVariants.{Nobody, Decides}
 use Rattle.table.specs.declared.Table.{Table}
-use Rattle.table.specs.declared.Judged.{Judged}
 
 -- ---- from the code to the rules
 
@@ -27,9 +25,9 @@ op_of o =
       modes = o.modes;
     }
 
-abbrev pub who_of : Decider → rules.Decider
-who_of Nobody = rules.nobody
-who_of (Decides i) = rules.decides i
+abbrev pub who_of : Option ℕ → rules.Decider
+who_of None = rules.nobody
+who_of (Some i) = rules.decides i
 
 -- the words and operations that count
 abbrev pub table_of : Table → rules.Table
@@ -62,9 +60,9 @@ op_in o =
 abbrev pub blank_op : Op
 blank_op = op_in rules.no_op
 
-abbrev pub who_in : rules.Decider → Decider
-who_in rules.nobody = Nobody
-who_in (rules.decides i) = Decides i
+abbrev pub who_in : rules.Decider → Option ℕ
+who_in rules.nobody = None
+who_in (rules.decides i) = Some i
 
 -- as many as n, filled up with d
 unfoldable pub padded : {A : Type 0} → ℕ → A → List A → List A
@@ -96,7 +94,7 @@ no_table =
       follow = replicate 32 0;
       ops = replicate 32 blank_op;
       count = 0;
-      decider = Nobody;
+      decider = None;
     }
 
 -- one operation more: what a store of o at the table's count, and one added to the count, make of t
@@ -116,23 +114,17 @@ with_op t o =
 
 -- ---- a verdict with its table
 
--- what the table is: the accepted one, or the empty one
-abbrev pub table_for : verdicts.Verdict rules.Table → Table
-table_for (accepted T) = table_in T
-table_for (refused n a b) = no_table
-
--- r is the verdict v: its number, a and b, and its table to the last word
-pub record JudgedAs (v : verdicts.Verdict rules.Table) (r : Judged) : Type 0 where
-  pub said : tested r.verdict ≡ onwards v (λ T. accepted tt)
-  pub table : r.table ≡ table_for v
+-- r is the verdict v: the refusal with its number, a and b, or the accepted table to the last word
+abbrev pub JudgedAs : verdicts.Verdict rules.Table → Result Table Refusal → Type 0
+JudgedAs v r = answered r ≡ onwards v (λ T. accepted (table_in T))
 
 -- what is judged next: a refusal stays, and a table that is accepted goes on
-abbrev pub going_on : Judged → (rules.Table → verdicts.Verdict rules.Table) → verdicts.Verdict rules.Table
-going_on j f = onwards (verdict_on j.verdict (table_of j.table)) f
+abbrev pub going_on : Result Table Refusal → (rules.Table → verdicts.Verdict rules.Table) → verdicts.Verdict rules.Table
+going_on j f = onwards (answered j) (λ t. f (table_of t))
 
 -- a table that is accepted is zero where nothing counts
-abbrev pub Tidy : Judged → Type 0
-Tidy j = j.verdict ≡ Accepted → j.table ≡ table_in (table_of j.table)
+abbrev pub Tidy : Result Table Refusal → Type 0
+Tidy j = ForOk j (λ t. t ≡ table_in (table_of t))
 
 -- ---- what the engine takes: an accepted table, with zeros where nothing counts
 pub record Good (t : Table) : Type 0 where

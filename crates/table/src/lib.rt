@@ -4,10 +4,7 @@
 ghost use Rattle.std.specs.Prelude.{◌≡◌};
 ghost use Rattle.rules.specs.Table.{end_of, held_to};
 ghost use Rattle.rules.specs.Judge.{ops_place};
-ghost use Rattle.fields.specs.Verdicts.{refusal_of};
-ghost use Rattle.table.specs.Tables.{no_table, op_of, JudgedAs};
-
-use fields::{Refusal, Verdict};
+ghost use Rattle.table.specs.Tables.{no_table, op_of};
 
 #[derive(Clone, Copy)]
 pub struct Op {
@@ -20,14 +17,8 @@ pub struct Op {
     pub modes: u32,
 }
 
-// The operation that decides, by its number, or none.
-#[derive(Clone, Copy)]
-pub enum Decider {
-    Nobody,
-    Decides(usize),
-}
-
-// The first `modes` words of `follow` and the first `count` operations count; the others are zero.
+// The first `modes` words of `follow` and the first `count` operations count; the others are zero. The decider is the operation that decides, by
+// its number.
 #[derive(Clone, Copy)]
 pub struct Table {
     pub len: u32,
@@ -38,14 +29,7 @@ pub struct Table {
     pub follow: [u32; 32],
     pub ops: [Op; 32],
     pub count: usize,
-    pub decider: Decider,
-}
-
-// A verdict with its table; on a refusal the table is the empty one.
-#[derive(Clone, Copy)]
-pub struct Judged {
-    pub verdict: Verdict,
-    pub table: Table,
+    pub decider: Option<usize>,
 }
 
 // The table with nothing in it.
@@ -72,17 +56,7 @@ pub fn empty() -> Table
         follow,
         ops,
         count: 0,
-        decider: Decider::Nobody,
-    }
-}
-
-// A refusal, with the empty table.
-pub fn deny(q: Refusal) -> Judged
-    ensures { JudgedAs (refusal_of q) result }
-{
-    Judged {
-        verdict: Verdict::Refused(q),
-        table: empty(),
+        decider: None,
     }
 }
 

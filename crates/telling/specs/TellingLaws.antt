@@ -1,34 +1,37 @@
 -- What is told of a verdict of the code is what is told of the rules' verdict.
 -- Assumes nothing.
-use Rattle.std.specs.Prelude.{◌≡◌, refl, ℕ, Bool, ℤ}
+use Rattle.std.specs.Prelude.{◌≡◌, refl, ℕ, Bool, ℤ, Result, Ok, Err}
+use Rattle.std.specs.Result.{result_and}
 use Rattle.std.proofs.Common.{sym, ap, ◌∙◌}
 use Rattle.rules.specs.Verdicts.{accepted, refused, onwards}
 use Rattle.rules.specs.Verdicts as rules
 use Rattle.rules.specs.Table.{Table}
+use Rattle.theory.proofs.Verdicts.{onwards_accepts}
 use Rattle.fields.specs.declared.Refusal.{Refusal}
 use Rattle.figures.specs.declared.Figures.{Figures}
-use Rattle.fields.specs.declared.Verdict.{Verdict}
-use Rattle.fields.specs.declared.Verdict.TheVariants.{Accepted, Refused}
-use Rattle.fields.specs.Verdicts.{refusal_of, verdict_on, tested}
+use Rattle.fields.specs.Verdicts.{refusal_of, answered}
 use Rattle.figures.specs.Figures.{figures_of}
 use Rattle.fields.specs.RefusalLaws.{refusal_is, onwards_refusal}
-use Rattle.table.specs.declared.Judged.{Judged}
+use Rattle.table.specs.declared.Table as code
+use Rattle.table.specs.JudgedLaws.{judged_accepted, judged_refused}
 use Rattle.table.specs.Tables.{JudgedAs}
 use Rattle.telling.specs.Telling.{told_of, unwritten, ended, yes_of, ended_with}
 
-verdict_unwritten : (c : Verdict) → verdict_on c 0 ≡ unwritten (tested c)
+-- a refusal after which nothing is written is told alike, whatever was to be accepted
+refusal_unwritten : (A B : Type 0) (r : Refusal) → unwritten (refusal_of {A = A} r) ≡ unwritten (refusal_of {A = B} r)
 unfolding unwritten
-verdict_unwritten Accepted = refl
-verdict_unwritten (Refused r) = sym (onwards_refusal r (λ x. accepted 0) refl)
+refusal_unwritten A B r = onwards_refusal r (λ x. accepted 0) refl ∙ sym (onwards_refusal r (λ x. accepted 0) refl)
 
-tested_unwritten : {A : Type 0} (v : rules.Verdict A) → unwritten (onwards v (λ x. accepted (tt {0}))) ≡ unwritten v
+pub refusal_kept : (r : Refusal) → told_of (refusal_of r) ≡ told_of (unwritten (refusal_of {A = Unit {0}} r))
 unfolding unwritten
-tested_unwritten (accepted x) = refl
-tested_unwritten (refused n a b) = refl
+refusal_kept r = ap told_of (sym (onwards_refusal r (λ x. accepted 0) refl))
 
--- the code's verdict with its table
-pub judged_told : {v : rules.Verdict Table} (r : Judged) → JudgedAs v r → told_of (verdict_on r.verdict 0) ≡ told_of (unwritten v)
-judged_told {v} r j = ap told_of (verdict_unwritten r.verdict ∙ ap unwritten j.said ∙ tested_unwritten v)
+-- the code's verdict on a table, the table left aside
+pub judged_told : (v : rules.Verdict Table) (r : Result code.Table Refusal) → JudgedAs v r
+    → told_of (unwritten (answered (result_and r (Ok (tt {0}))))) ≡ told_of (unwritten v)
+unfolding unwritten
+judged_told v (Ok t) j = ap told_of (sym (onwards_accepts (λ x. accepted 0) (judged_accepted v t j).said))
+judged_told v (Err q) j = ap told_of (refusal_unwritten (Unit {0}) Table q ∙ ap unwritten (sym (judged_refused v q j)))
 
 -- with a lent place
 pub ended_told : {A : Type 0} {f g : Figures} {lent : A} → f ≡ g → ended f lent ≡ ended g lent

@@ -9,10 +9,10 @@ use Rattle.rules.specs.Table.{Table, nops}
 use Rattle.rules.specs.Rows.{Reply, reply_of}
 use Rattle.rules.specs.Verdicts.{Verdict, accepted, refused, ROOM}
 use Rattle.rules.specs.Text.{row_line, row_lines, period_line, refused_line, reply_text, told, text_of, longest_text}
-use Rattle.rules.specs.Answers.{put}
 use Rattle.theory.proofs.Text.{lines_none, lines_snoc, reply_text_lem}
-use Rattle.theory.proofs.Answering.{put_room, put_short}
 use Rattle.fields.specs.declared.Refusal.{Refusal}
+use Rattle.rules.specs.Answers.{put}
+use Rattle.theory.proofs.Answering.{put_room, put_short}
 use Rattle.fields.specs.Verdicts.{refusal_of, leaving}
 use Rattle.fields.specs.RefusalLaws.{refusal_is}
 use Rattle.table.specs.Tables.{padded}

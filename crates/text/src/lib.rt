@@ -1,7 +1,7 @@
 // The text that `fold` prints, by value: the lines of a reply or of a refusal.
 #![tactic(auto)]
 
-ghost use Rattle.std.specs.Prelude.{◌≡◌, ◌+◌, ◌*◌, ◌≤◌, length};
+ghost use Rattle.std.specs.Prelude.{◌≡◌, ◌+◌, ◌*◌, ◌≤◌, length, take};
 ghost use Rattle.rules.specs.Rows.{reply_of};
 ghost use Rattle.rules.specs.Text.{row_lines, reply_text, text_of};
 ghost use Rattle.rules.specs.Answers.{put};
@@ -10,7 +10,8 @@ ghost use Rattle.table.specs.Tables.{table_of, Good};
 ghost use Rattle.lines.specs.Lines.{Puts};
 ghost use Rattle.text.specs.Texts.{text_in};
 
-use fields::{Answer, Refusal};
+use fields::Refusal;
+use figures::Figures;
 use rows::Ticks;
 use table::Table;
 
@@ -24,17 +25,25 @@ pub struct Text {
     pub len: usize,
 }
 
+impl Text {
+    // The bytes that count.
+    pub fn as_bytes(&self) -> &[u8]
+        requires { self.now.len ≤ length self.now.bytes }
+        ensures { result.now ≡ take self.now.len self.now.bytes }
+    {
+        &self.bytes[..self.len]
+    }
+}
+
 // The lines of the table's rows at the period q, each of 24 bytes at most.
 fn put_row_lines(out: &mut [u8], at: usize, t: Table, q: Ticks) -> usize
     requires { Good t × (1 ≤ q.0) × (q.0 ≤ t.len) × (at + 24 * t.count ≤ length out.old) }
     ensures { Puts out.old out.new at result (row_lines 0 (reply_of (table_of t) q.0).rows) }
 {
     let mut end = at;
-    let mut i: usize = 0;
-    while i < t.count {
+    for i in 0..t.count {
         let r = replies::row_of(t, i, q);
         end = lines::put_row_line(out, end, i, r);
-        i += 1;
     }
     end
 }
@@ -55,18 +64,18 @@ pub fn refusal_text(r: Refusal) -> Text
     ensures { result ≡ text_in (text_of (refusal_of r)) }
 {
     let mut bytes = [0u8; LONGEST];
-    let len = lines::put_refused_line(&mut bytes, 0, figures::figures_of(r));
+    let len = lines::put_refused_line(&mut bytes, 0, Figures::from(r));
     Text { bytes, len }
 }
 
 // A text's bytes from the front of a lent buffer, or ROOM.
-pub fn put_text(out: &mut [u8], text: &[u8]) -> Answer
+pub fn put_text(out: &mut [u8], text: &[u8]) -> Result<usize, Refusal>
     ensures { leaving (answered result) out.new ≡ put text.now out.old }
 {
     let n = text.len();
     if out.len() < n {
-        return Answer::Denied(Refusal::Room(n));
+        return Err(Refusal::Room(n));
     }
-    lines::put_bytes(out, 0, text);
-    Answer::Wrote(n)
+    out[..n].copy_from_slice(text);
+    Ok(n)
 }

@@ -6,6 +6,8 @@ ghost use Rattle.handed.specs.Handed.{numbers};
 ghost use Rattle.telling.specs.Telling.{ended};
 ghost use Rattle.calls.specs.Calls.{JudgeTells, NumbersTell, WriteEnds, PlanEnds, FoldEnds, UnfoldEnds, PeriodTells, GapTells, BoardsTell, ValuesTell, MarginEnds};
 
+use handed::Numbers;
+
 // A table's bytes, judged.
 #[unsafe(no_mangle)]
 pub extern "C" fn trevozhil_judge(s: &[u8], a: &mut u64, b: &mut u64) -> u32
@@ -32,9 +34,19 @@ pub extern "C" fn trevozhil_judge_numbers(
 ) -> u32
     ensures { NumbersTell (numbers p boards cells modes first follow.now ops.now holds.now mark decider) (figures_of result a.new b.new) }
 {
-    calls::judge_numbers(
-        p, boards, cells, modes, first, follow, ops, holds, mark, decider, a, b,
-    )
+    let n = Numbers {
+        len: p,
+        boards,
+        cells,
+        modes,
+        first,
+        follow,
+        ops,
+        holds,
+        mark,
+        decider,
+    };
+    calls::judge_numbers(n, a, b)
 }
 
 // A table that is handed over as numbers, judged and written.
@@ -56,9 +68,19 @@ pub extern "C" fn trevozhil_write(
 ) -> u32
     ensures { WriteEnds (numbers p boards cells modes first follow.now ops.now holds.now mark decider) out.old (ended (figures_of result a.new b.new) out.new) }
 {
-    calls::write(
-        p, boards, cells, modes, first, follow, ops, holds, mark, decider, out, a, b,
-    )
+    let n = Numbers {
+        len: p,
+        boards,
+        cells,
+        modes,
+        first,
+        follow,
+        ops,
+        holds,
+        mark,
+        decider,
+    };
+    calls::write(n, out, a, b)
 }
 
 // The period of a table.

@@ -186,9 +186,13 @@ pub length_block : (F row : List ℕ) (k : ℕ) → k < 16 → length (get_or (b
 unfolding row_after
 length_block F row k h = rw (block_row F row k h) (length_row F (row_after F row k))
 
--- a row that agrees with its next row is its own next row
+-- a row that is its next row stays
+pub still_on : (F last next : List ℕ) → next ≡ next_row F last → next ≡ last → next_row F next ≡ next
+still_on F last next e same = ap (next_row F) same ∙ sym e
+
+-- so does one that agrees with it in every mode
 pub still_row : (F last next : List ℕ) → length last ≡ 32 → next ≡ next_row F last → SameRow next last 32 → next_row F next ≡ next
 still_row F last next long e same =
     let long' : length next ≡ 32 = rw e (length_row F last) in
     let is : next ≡ last = ext_get_or 0 next last (omega arith) (λ m h. same m (omega arith)) in
-    ap (next_row F) is ∙ sym e
+    still_on F last next e is

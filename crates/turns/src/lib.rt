@@ -1,10 +1,10 @@
 // Turns: the modes that a run can reach, and the modes that may stand n cycles after a mode, for sixteen distances at a time.
 #![tactic(auto)]
 
-ghost use Rattle.std.specs.Prelude.{◌≡◌, true, ◌↔◌, length};
+ghost use Rattle.std.specs.Prelude.{◌≡◌, true, length};
 ghost use Rattle.rules.specs.Table.{Table, Accepted};
 ghost use Rattle.theory.specs.Walks.{IsReach};
-ghost use Rattle.turns.specs.Turns.{next_row, SameRow, block_from, TurnsOf};
+ghost use Rattle.turns.specs.Turns.{next_row, block_from, TurnsOf};
 
 // The modes that a run can reach: the first modes, and what follows until nothing is new.
 pub fn reached(follow: &[u32], first: u32) -> u32
@@ -13,7 +13,7 @@ pub fn reached(follow: &[u32], first: u32) -> u32
     let mut all = first;
     loop {
         let more = all | sets::step(follow, all);
-        if u32::count_ones(more) == u32::count_ones(all) {
+        if more.count_ones() == all.count_ones() {
             break;
         }
         all = more;
@@ -26,26 +26,10 @@ fn next_row(follow: &[u32; 32], row: &[u32; 32]) -> [u32; 32]
     ensures { result ≡ next_row follow.now row.now }
 {
     let mut out = [0u32; 32];
-    let mut m: usize = 0;
-    while m < 32 {
-        out[m] = sets::step(row, follow[m]);
-        m += 1;
+    for (m, set) in out.iter_mut().enumerate() {
+        *set = sets::step(row, follow[m]);
     }
     out
-}
-
-// The same set for every mode.
-fn same_row(a: &[u32; 32], b: &[u32; 32]) -> bool
-    ensures { (result ≡ true) ↔ SameRow a.now b.now 32 }
-{
-    let mut m: usize = 0;
-    while m < 32 {
-        if a[m] != b[m] {
-            return false;
-        }
-        m += 1;
-    }
-    true
 }
 
 // One turn more; a row that is its own next row stays.
@@ -67,13 +51,11 @@ pub fn block(follow: &[u32; 32], row: &[u32; 32]) -> [[u32; 32]; 16]
     let mut rows = [[0u32; 32]; 16];
     let mut last = *row;
     let mut still = false;
-    let mut n: usize = 0;
-    while n < 16 {
+    for entry in &mut rows {
         let next = row_on(follow, &last, still);
-        still = same_row(&next, &last);
+        still = next == last;
         last = next;
-        rows[n] = last;
-        n += 1;
+        *entry = last;
     }
     rows
 }

@@ -15,6 +15,7 @@ use Rattle.columns.specs.Columns.{op_by, Columns, Short}
 use Rattle.turns.specs.Turns.{TurnsOf}
 use Rattle.cells.specs.Cells.{Turned, ended_in, last_of, fresh_of}
 use Rattle.columns.specs.ColumnLaws.{op_there_lem}
+use Rattle.columns.specs.declared.Dated.{Dated}
 use Rattle.cells.specs.WriteLaws.{ended_writers, ended_last, ended_fresh}
 use Rattle.arrivals.specs.Arrivals.{Each}
 use Rattle.raises.specs.Raises.{Raised, InTime}
@@ -24,7 +25,7 @@ use Rattle.values.specs.Bounds.{IsBound, TurnsFine, WriterFine, CellFine}
 -- ---- the same in other words
 
 -- a reader's fresh modes matter for the readers alone
-pub turns_same : (F cols : List ℕ) (readers : ℕ) (f g : ℕ → ℕ) → ((j : ℕ) → In j readers → f j ≡ g j) → (w end n modes q : ℕ)
+pub turns_same : (F : List ℕ) (cols : List Dated) (readers : ℕ) (f g : ℕ → ℕ) → ((j : ℕ) → In j readers → f j ≡ g j) → (w end n modes q : ℕ)
     → TurnsFine F cols readers f w end n modes q ↔ TurnsFine F cols readers g w end n modes q
 unfolding TurnsFine
 turns_same F cols readers f g h w end n modes q = (
@@ -34,16 +35,16 @@ turns_same F cols readers f g h w end n modes q = (
 
 -- ---- nobody to ask for
 
-pub no_writers : (F cols : List ℕ) (R r b : ℕ) → Raised b (CellFine F cols R 0 r) b
+pub no_writers : (F : List ℕ) (cols : List Dated) (R r b : ℕ) → Raised b (CellFine F cols R 0 r) b
 no_writers F cols R r b = raised_not b (λ q h i x. absurd (in_none i x))
 
 -- ---- at 1000 every value is in time
 
-pub writer_late : (F cols : List ℕ) → Short cols → (R w r i : ℕ) → i < 32 → WriterFine F cols R w r i 1000
+pub writer_late : (F : List ℕ) (cols : List Dated) → Short cols → (R w r i : ℕ) → i < 32 → WriterFine F cols R w r i 1000
 unfolding WriterFine TurnsFine
 writer_late F cols short R w r i h m j l e = in_time_late (end_of (op_by cols i)) (op_by cols j).start (0 + m) 1000 (short.ends i h)
 
-pub cell_late : (F cols W : List ℕ) → Short cols → Turned cols 128 W → (R r c : ℕ) → c < 32 → CellFine F cols R (get_or W c 0) r 1000
+pub cell_late : (F : List ℕ) (cols : List Dated) (W : List ℕ) → Short cols → Turned (λ k. (op_by cols k).writes) W → (R r c : ℕ) → c < 32 → CellFine F cols R (get_or W c 0) r 1000
 cell_late F cols W short writes R r c small i wi = writer_late F cols short R (get_or W c 0) r i ((writes.each c i small).0 wi).0
 
 -- ---- a cell of a table
@@ -95,8 +96,8 @@ module _ (T : Table) (R q : ℕ) where
 
 -- ---- a cell as it is asked for: by columns, by the sets of its writers and readers, by the followers as they are lent
 
-module _ (T : Table) (ok : Accepted T) (F : List ℕ) (turns : TurnsOf T F) (cols : List ℕ) (C : Columns T cols)
-    (W : List ℕ) (writes : Turned cols 128 W) (D : List ℕ) (reads : Turned cols 96 D) (R : ℕ) where
+module _ (T : Table) (ok : Accepted T) (F : List ℕ) (turns : TurnsOf T F) (cols : List Dated) (C : Columns T cols)
+    (W : List ℕ) (writes : Turned (λ k. (op_by cols k).writes) W) (D : List ℕ) (reads : Turned (λ k. (op_by cols k).reads) D) (R : ℕ) where
   abbrev pub CellBy : ℕ → ℕ → Type 0
   CellBy c = CellFine F cols R (get_or W c 0) (get_or D c 0)
 

@@ -11,13 +11,14 @@ use Rattle.theory.specs.Tests.{without, step, via}
 use Rattle.theory.proofs.Sets.{in_none, in_or, in_without, says_shares, says_within}
 use Rattle.theory.proofs.Modes.{in_step}
 use Rattle.columns.specs.Columns.{op_by}
+use Rattle.columns.specs.declared.Dated.{Dated}
 use Rattle.cells.specs.Cells.{Early}
 use Rattle.arrivals.specs.Arrivals.{Every, ReaderFine}
 use Rattle.raises.specs.Raises.{Raised, InTime}
 use Rattle.values.specs.Bounds.{TurnsFine}
 use Rattle.raises.specs.RaiseLaws.{raised_up}
 
-module _ (F cols : List ℕ) (readers : ℕ) (fresh : ℕ → ℕ) (w end : ℕ) where
+module _ (F : List ℕ) (cols : List Dated) (readers : ℕ) (fresh : ℕ → ℕ) (w end : ℕ) where
   -- the readers n + 1 cycles later, where the value has come to the modes `modes`
   abbrev ReadersFine : ℕ → ℕ → ℕ → Type 0
   ReadersFine modes n = Every (ReaderFine cols fresh modes end n) readers

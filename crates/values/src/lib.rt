@@ -10,13 +10,16 @@ ghost use Rattle.cells.specs.Cells.{ended_in, FreshSets, Early};
 ghost use Rattle.raises.specs.Raises.{Raised};
 ghost use Rattle.values.specs.Bounds.{IsBound, TurnsFine, WriterFine, CellFine};
 
+use columns::Dated;
+use sets::Members;
+
 // ---- distances
 
 // The bound, raised at every distance by what is written at `end` in one of the modes `from`, until it is written over: an idle mode hides
-// nothing. The search ends where n + 1 cycles of the bound itself take until `end`, for the reader that starts first, or where no mode is
-// new: a reader in a mode that was seen before asked for more then than it would now.
+// nothing. The search ends where n + 1 cycles of the bound itself take until `end`, for the reader that starts first, and so before the
+// distance `end`; or where no mode is new: a reader in a mode that was seen before asked for more then than it would now.
 pub fn ask_turns(
-    cols: &[u32; 224],
+    cols: &[Dated; 32],
     follow: &[u32],
     readers: u32,
     fresh: &[u32; 32],
@@ -32,16 +35,17 @@ pub fn ask_turns(
     let mut modes = from;
     let mut seen: u32 = 0;
     let mut most = bound;
-    let mut n: u32 = 0;
-    while early + (n + 1) * most < end {
+    for n in 0..end {
+        if end <= early + (n + 1) * most {
+            return most;
+        }
         let next = sets::step(follow, modes);
         if sets::without(next, seen) == 0 {
             return most;
         }
         most = arrivals::ask_readers(cols, readers, fresh, next, end, n, most);
-        seen = seen | next;
+        seen |= next;
         modes = sets::without(next, written);
-        n += 1;
     }
     most
 }
@@ -51,7 +55,7 @@ pub fn ask_turns(
 // The bound, raised by what operation i writes into a cell, from the reached modes in which it is the last to write it. Mostly the bound is
 // long enough for every reader already, and no turn has to be made.
 fn ask_writer(
-    cols: &[u32; 224],
+    cols: &[Dated; 32],
     follow: &[u32],
     reached: u32,
     writers: u32,
@@ -86,7 +90,7 @@ fn ask_writer(
 
 // The bound, raised by every value of a cell. Where nobody writes it or nobody reads it, no value is asked for.
 fn ask_cell(
-    cols: &[u32; 224],
+    cols: &[Dated; 32],
     follow: &[u32],
     reached: u32,
     writers: u32,
@@ -103,31 +107,25 @@ fn ask_cell(
     let fresh = cells::fresh_sets(cols, writers, readers);
     let early = cells::earliest(cols, readers);
     let mut most = bound;
-    let mut left = writers;
-    while left != 0 {
-        let m = sets::lowest(left);
+    for m in Members(writers) {
         let i = m as usize;
         most = ask_writer(
             cols, follow, reached, writers, readers, &fresh, written, early, i, most,
         );
-        left = sets::rest(left, m);
     }
     most
 }
 
 // The smallest period at which every value is in time, for runs through the modes `reached`.
-pub fn values_bound(follow: &[u32], cols: &[u32; 224], count: u32, reached: u32) -> u32
+pub fn values_bound(follow: &[u32], cols: &[Dated; 32], count: u32, reached: u32) -> u32
     requires { Short cols.now × (count ≤ 32) }
     ensures { (T : Table) → Accepted T → Columns T cols.now → TurnsOf T follow.now → T.cells ≡ count → IsBound T reached result }
 {
-    let readers = cells::turned(cols, 96);
-    let writers = cells::turned(cols, 128);
+    let readers = cells::turned(cols, |o| o.reads);
+    let writers = cells::turned(cols, |o| o.writes);
     let mut bound: u32 = 1;
-    let mut c: u32 = 0;
-    while c < count {
-        let k = c as usize;
-        bound = ask_cell(cols, follow, reached, writers[k], readers[k], bound);
-        c += 1;
+    for c in 0..count as usize {
+        bound = ask_cell(cols, follow, reached, writers[c], readers[c], bound);
     }
     bound
 }

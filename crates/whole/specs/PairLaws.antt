@@ -2,7 +2,7 @@
 -- Assumes nothing.
 use Rattle.std.specs.Prelude.{ℕ, ◌+◌, ◌<◌, ◌≤◌, ◌≡◌, Bool, true, length, get_or}
 use Rattle.std.proofs.Math.Path.{ap}
-use Rattle.std.proofs.Common.{ap₂, ◌∙◌, arith}
+use Rattle.std.proofs.Common.{sym, ap₂, ◌∙◌, arith}
 use Rattle.std.proofs.Math.Bool.{false}
 use Rattle.rules.specs.Table as rules
 use Rattle.rules.specs.Table.{op}
@@ -18,6 +18,10 @@ module _ (hit : rules.Op → rules.Op → Bool) (t : Table) where
   -- the hit of operations i and j
   abbrev hit_at : ℕ → ℕ → Bool
   hit_at i j = hit (op_of (get_or t.ops i blank_op)) (op_of (get_or t.ops j blank_op))
+
+  -- as a test of the two told it
+  pub hit_by : {r b : Bool} (i j : ℕ) → r ≡ hit_at i j → r ≡ b → hit_at i j ≡ b
+  hit_by i j e f = sym e ∙ f
 
   -- no pair with a first number below i is hit
   unfoldable pub RowsClear : ℕ → Type 0

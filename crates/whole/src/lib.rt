@@ -1,109 +1,82 @@
 // All the pairs of a table's operations: the first clash, the first race; and the judgement of the whole table, by them and by its decider.
 #![tactic(auto)]
 
-ghost use Rattle.std.specs.Prelude.{◌≡◌, ◌≤◌};
+ghost use Rattle.std.specs.Prelude.{◌≡◌, ℕ, ◌≤◌, Bool};
 ghost use Rattle.rules.specs.Verdicts.{CLASH, RACE};
+ghost use Rattle.rules.specs.Table as rules;
 ghost use Rattle.rules.specs.Judge.{clashes, races, pairs_test, judge_whole};
-ghost use Rattle.fields.specs.Verdicts.{tested};
-ghost use Rattle.table.specs.Tables.{table_of, table_in, JudgedAs};
+ghost use Rattle.fields.specs.Verdicts.{answered};
+ghost use Rattle.table.specs.Tables.{table_of, JudgedAs};
 ghost use Rattle.early.specs.Early.{Named};
-ghost use Rattle.whole.specs.Whole.{both_tests, whole_test, whole_on, Ready};
+ghost use Rattle.whole.specs.Whole.{TestsBy, FirstPair, both_tests, whole_test, whole_on, Ready};
 
-use fields::{Refusal, Verdict};
-use table::{Judged, Table};
+use fields::Refusal;
+use table::{Op, Table};
 
-// The first pair that clashes, by lower number and then higher.
-fn first_clash(t: Table) -> Verdict
-    requires { t.count ≤ 32 }
-    ensures { tested result ≡ pairs_test clashes CLASH (table_of t) }
+// The first pair that is hit, by lower number and then higher.
+fn first_pair<F: Fn(Op, Op) -> bool>(t: Table, hit: F) -> Option<(usize, usize)>
+    requires few { t.count ≤ 32 }
+    requires calls { F.IsAlwaysCallable hit }
+    ensures { (h : rules.Op → rules.Op → Bool) → TestsBy (F.post hit) t h → (number : ℕ) → FirstPair result h number (table_of t) }
 {
-    let mut found = Verdict::Accepted;
-    let mut i: usize = 0;
-    'all: while i < t.count {
-        let mut j = i + 1;
-        while j < t.count {
-            if pairs::clash(t.ops[i], t.ops[j]) {
-                found = Verdict::Refused(Refusal::Clash(i, j));
-                break 'all;
+    let mut found = None;
+    'pairs: for i in 0..t.count {
+        for j in i + 1..t.count {
+            if hit(t.ops[i], t.ops[j]) {
+                found = Some((i, j));
+                break 'pairs;
             }
-            j += 1;
         }
-        i += 1;
     }
     found
 }
 
-// The first pair that races, by lower number and then higher.
-fn first_race(t: Table) -> Verdict
+// The first pair that clashes.
+fn first_clash(t: Table) -> Result<(), Refusal>
     requires { t.count ≤ 32 }
-    ensures { tested result ≡ pairs_test races RACE (table_of t) }
+    ensures { answered result ≡ pairs_test clashes CLASH (table_of t) }
 {
-    let mut found = Verdict::Accepted;
-    let mut k: usize = 0;
-    'all: while k < t.count {
-        let mut l = k + 1;
-        while l < t.count {
-            if pairs::race(t.ops[k], t.ops[l]) {
-                found = Verdict::Refused(Refusal::Race(k, l));
-                break 'all;
-            }
-            l += 1;
-        }
-        k += 1;
+    match first_pair(t, pairs::clash) {
+        None => Ok(()),
+        Some((i, j)) => Err(Refusal::Clash(i, j)),
     }
-    found
+}
+
+// The first pair that races.
+fn first_race(t: Table) -> Result<(), Refusal>
+    requires { t.count ≤ 32 }
+    ensures { answered result ≡ pairs_test races RACE (table_of t) }
+{
+    match first_pair(t, pairs::race) {
+        None => Ok(()),
+        Some((i, j)) => Err(Refusal::Race(i, j)),
+    }
 }
 
 // The tests over all pairs: any clash comes before any race.
-fn pairs_test(t: Table) -> Verdict
+fn pairs_test(t: Table) -> Result<(), Refusal>
     requires { t.count ≤ 32 }
-    ensures { tested result ≡ both_tests (table_of t) }
+    ensures { answered result ≡ both_tests (table_of t) }
 {
-    let first = first_clash(t);
-    match first {
-        Verdict::Accepted => first_race(t),
-        Verdict::Refused(r) => Verdict::Refused(r),
-    }
+    first_clash(t)?;
+    first_race(t)
 }
 
 // All tests of the whole: the decider is asked for only where no pair is refused.
-fn whole_test(t: Table) -> Verdict
+fn whole_test(t: Table) -> Result<(), Refusal>
     requires { (t.count ≤ 32) × (t.modes ≤ 32) × Named t }
-    ensures { tested result ≡ whole_test (table_of t) }
+    ensures { answered result ≡ whole_test (table_of t) }
 {
-    let first = pairs_test(t);
-    match first {
-        Verdict::Accepted => early::early_test(t),
-        Verdict::Refused(q) => Verdict::Refused(q),
-    }
-}
-
-// The judgement of the whole, of a table that is zero where nothing counts.
-fn judge_table(t: Table) -> Judged
-    requires { (t ≡ table_in (table_of t)) × (t.modes ≤ 32) × Named t }
-    ensures { JudgedAs (judge_whole (table_of t)) result }
-{
-    let v = whole_test(t);
-    match v {
-        Verdict::Refused(q) => table::deny(q),
-        Verdict::Accepted => Judged {
-            verdict: Verdict::Accepted,
-            table: t,
-        },
-    }
+    pairs_test(t)?;
+    early::early_test(t)
 }
 
 // A table whose fields are judged, judged whole: a refusal stays.
-pub fn judge(j: Judged) -> Judged
-    requires { Ready j }
-    ensures { JudgedAs (whole_on j) result }
+pub fn judge(judged: Result<Table, Refusal>) -> Result<Table, Refusal>
+    requires { Ready judged }
+    ensures { JudgedAs (whole_on judged) result }
 {
-    let v = j.verdict;
-    match v {
-        Verdict::Refused(q) => table::deny(q),
-        Verdict::Accepted => {
-            let t = j.table;
-            judge_table(t)
-        }
-    }
+    let t = judged?;
+    whole_test(t)?;
+    Ok(t)
 }

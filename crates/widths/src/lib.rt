@@ -32,10 +32,8 @@ pub fn ops_end(modes: u32, ops: [Op; 32], count: usize) -> usize
     ensures { result ≡ ops_place modes + ops_size (map op_of (take count ops)) }
 {
     let mut at = table::ops_place(modes);
-    let mut i: usize = 0;
-    while i < count {
-        at += op_width(ops[i]);
-        i += 1;
+    for o in &ops[..count] {
+        at += op_width(*o);
     }
     at
 }

@@ -12,7 +12,7 @@ use Rattle.words.specs.declared.Question.{Question}
 use Rattle.words.specs.declared.Question.TheVariants.{Fold, Boards, Values, Margin, Unfold, Gap, Nothing}
 use Rattle.words.specs.declared.Word.{Word}
 use Rattle.words.specs.declared.Word.TheVariants as word
-use Rattle.words.specs.Words.{read_as, word_is, asked_by, Asks}
+use Rattle.words.specs.Words.{read_as, word_is, asked_by, Asks, AsksFirst}
 
 -- a question of the rules, held by the code
 abbrev held : rules.Question → Question
@@ -58,6 +58,10 @@ held_word_lem word.Other = refl
 -- a word is read in one way
 pub word_one : (w : List ℕ) (x y : Word) → word_is x ≡ read_as w → word_is y ≡ read_as w → x ≡ y
 word_one w x y p q = sym (held_word_lem x) ∙ ap held_word (p ∙ sym q) ∙ held_word_lem y
+
+-- the words that are handed over are such a list themselves
+pub first_one : (first : List rules.Word) (x y : Question) → AsksFirst first x → AsksFirst first y → x ≡ y
+first_one first x y p q = asked_one x y (p first refl refl ∙ sym (q first refl refl))
 
 -- so many words that begin with some; where there are more, those behind them are no names and no numbers
 pub begins : (first : List rules.Word) (count : ℕ) → (ws : List rules.Word) × (length ws ≡ count) × (take (length first) ws ≡ take count first)

@@ -1,12 +1,12 @@
 -- What is asked, by the number of words; and a number beyond 64 bits asks as the largest number does.
 -- Assumes nothing.
-use Rattle.std.specs.Prelude.{ℕ, zero, suc, ◌≤◌, ◌≡◌, refl, List, [], ◌∷◌, map, length, take}
-use Rattle.std.proofs.Common.{sym, ap, ◌∙◌, arith, take_all}
+use Rattle.std.specs.Prelude.{ℕ, zero, suc, min, ◌≤◌, ◌≡◌, refl, List, [], ◌∷◌, map, length, take}
+use Rattle.std.proofs.Common.{sym, ap, ◌∙◌, arith, take_all, length-take}
 use Rattle.std.proofs.lemmas.Simd.{map-map}
 use Rattle.std.proofs.lemmas.List.{length-map}
 use Rattle.rules.specs.Words.{Word, Question, boards_name, values_name, margin_name, unfold_name, gap_name, number, other, boards_asked, values_asked, margin_asked, unfold_asked, gap_asked, nothing_asked, with_number, with_none, asks, word_of, question_of}
 use Rattle.words.specs.declared.Question as code
-use Rattle.words.specs.Words.{capped, capped_word, capped_question, read_as, asked_by, Asks}
+use Rattle.words.specs.Words.{capped, capped_word, capped_question, read_as, asked_by, Asks, AsksFirst}
 
 -- ---- words of which there are too few or too many
 
@@ -32,7 +32,7 @@ pub one_not : (f : ℕ → Question) (ws : List Word) → (length ws ≡ 1 → �
 one_not f ws h = number_not _ ws (λ n vs e. none_not (f n) vs (λ z. h (omega arith)))
 
 -- four numbers, and no word more
-four_not : (ws : List Word) → (length ws ≡ 4 → ⊥) → asks (margin_name ∷ ws) ≡ nothing_asked
+pub four_not : (ws : List Word) → (length ws ≡ 4 → ⊥) → asks (margin_name ∷ ws) ≡ nothing_asked
 unfolding asks
 four_not ws h =
     number_not _ ws (λ i vs e. number_not _ vs (λ j us f. number_not _ us (λ n ts g. one_not (margin_asked i j n) ts (λ z. h (omega arith)))))
@@ -49,13 +49,19 @@ count_not (gap_name ∷ ws) none one two five = none_not gap_asked ws (λ e. one
 count_not (number n ∷ ws) none one two five = refl
 count_not (other ∷ ws) none one two five = refl
 
--- ---- words that begin with five, of which there are so many
+-- ---- words that begin with those that are handed over
 
--- where there are not more, the first of the five are all
-pub asks_first : (five : List Word) (count k : ℕ) {q : Question} → count ≡ k → k ≤ 5 → q ≡ asks (take k five) → (ws : List Word) → length ws ≡ count → take 5 ws ≡ take count five → q ≡ asks ws
-asks_first five count k e h a ws l f =
-    let all : ws ≡ take k five = sym (take_all 5 ws (omega arith)) ∙ f ∙ ap (λ (m : ℕ). take m five) e in
-    a ∙ ap asks (sym all)
+-- where there are not more than five, they are all
+pub asks_all : {first vs : List Word} {q : Question} → first ≡ vs → q ≡ asks vs → length vs ≤ 5
+    → (ws : List Word) → min (length ws) 6 ≡ min (length first) 6 → take 5 ws ≡ take 5 first → q ≡ asks ws
+asks_all {first} {vs} e a k ws l f =
+    let h : length first ≡ length vs = ap length e in
+    a ∙ ap asks (sym e ∙ sym (take_all 5 first (omega arith)) ∙ sym f ∙ take_all 5 ws (omega arith))
+
+-- what is asked of words of which the first were handed over, as many as there are or more than five, is asked by their number and the first five
+pub first_asks : (first : List Word) (q : code.Question) → AsksFirst first q → (count : ℕ) → min count 6 ≡ min (length first) 6 → Asks count (take 5 first) q
+first_asks first q asked count c ws l f =
+    asked ws (ap (λ (n : ℕ). min n 6) l ∙ c) (f ∙ take_all count (take 5 first) (simp length-take (omega arith)))
 
 -- ---- a number beyond 64 bits
 

@@ -1,3 +1,4 @@
 pub mod Words
 pub mod WordLaws
 pub mod AskLaws
+pub mod ByteLaws

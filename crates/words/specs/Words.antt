@@ -67,3 +67,8 @@ asked_by question.Nothing = nothing_asked
 -- whatever list of so many words begins with the five, or, where it has fewer, is the first of them
 abbrev pub Asks : ℕ → List rules.Word → Question → Type 0
 Asks count five r = (ws : List rules.Word) → length ws ≡ count → take 5 ws ≡ take count five → asked_by r ≡ asks ws
+
+-- the same by the words themselves, of which no more are looked at than that there is one behind the fifth: whatever list begins with the same five
+-- and has as many, or, like these, more than five
+abbrev pub AsksFirst : List rules.Word → Question → Type 0
+AsksFirst first r = (ws : List rules.Word) → min (length ws) 6 ≡ min (length first) 6 → take 5 ws ≡ take 5 first → asked_by r ≡ asks ws

@@ -1,15 +1,12 @@
 // The words behind the program's name: what they ask for.
 #![tactic(auto)]
 
-ghost use Rattle.std.specs.Prelude.{◌≡◌, true, [], ◌∷◌, ◌+◌, ◌-◌, ◌*◌};
-ghost use Rattle.rules.specs.Words.{is_digit, digits_only, is_number, value_of, same_bytes, asks, is_asked};
-ghost use Rattle.words.specs.Words.{capped, capped_word, read_as, unnamed_of, word_is, asked_by, Asks};
-
-// The largest number of 64 bits.
-const LARGEST: u64 = 18446744073709551615;
+ghost use Rattle.std.specs.Prelude.{◌≡◌, true, [], ◌∷◌, ◌+◌, ◌-◌, ◌*◌, map};
+ghost use Rattle.rules.specs.Words.{is_digit, digits_only, is_number, value_of, asks, is_asked};
+ghost use Rattle.words.specs.Words.{capped, capped_word, read_as, unnamed_of, word_is, asked_by, AsksFirst};
 
 // What is asked for.
-#[derive(Clone, Copy)]
+#[derive(Clone, Copy, PartialEq, Eq, Debug)]
 pub enum Question {
     Fold,
     Boards(u64),
@@ -21,7 +18,7 @@ pub enum Question {
 }
 
 // One word: the name of a question, a number, or neither.
-#[derive(Clone, Copy)]
+#[derive(Clone, Copy, PartialEq, Eq, Debug)]
 pub enum Word {
     Boards,
     Values,
@@ -34,47 +31,11 @@ pub enum Word {
 
 // ---- one word, by its bytes
 
-fn same_bytes(w: &[u8], name: &[u8]) -> bool
-    ensures { result ≡ same_bytes w.now name.now }
-{
-    let n = name.len();
-    if w.len() != n {
-        return false;
-    }
-    let mut i: usize = 0;
-    while i < n {
-        if w[i] != name[i] {
-            return false;
-        }
-        i += 1;
-    }
-    true
-}
-
-fn is_digit(d: u8) -> bool
-    ensures { result ≡ is_digit d }
-{
-    if d < 48 {
-        return false;
-    }
-    d <= 57
-}
-
+// Whether it is a number: one or more digits.
 fn is_number(w: &[u8]) -> bool
     ensures { result ≡ is_number w.now }
 {
-    let n = w.len();
-    if n == 0 {
-        return false;
-    }
-    let mut i: usize = 0;
-    while i < n {
-        if !is_digit(w[i]) {
-            return false;
-        }
-        i += 1;
-    }
-    true
+    !w.is_empty() && w.iter().all(|d| d.is_ascii_digit())
 }
 
 // One digit more behind those that are v. Nothing wraps: beyond 64 bits it is the largest number.
@@ -82,15 +43,7 @@ fn with_digit(v: u64, d: u8) -> u64
     requires { is_digit d ≡ true }
     ensures { result ≡ capped (v * 10 + (d - 48)) }
 {
-    let digit = (d - 48) as u64;
-    if LARGEST / 10 < v {
-        return LARGEST;
-    }
-    let tens = v * 10;
-    if LARGEST - digit < tens {
-        return LARGEST;
-    }
-    tens + digit
+    v.saturating_mul(10).saturating_add(u64::from(d - b'0'))
 }
 
 // The number that digits are.
@@ -98,12 +51,9 @@ fn value_of(w: &[u8]) -> u64
     requires { digits_only w.now ≡ true }
     ensures { result ≡ capped (value_of w.now) }
 {
-    let n = w.len();
-    let mut v: u64 = 0;
-    let mut i: usize = 0;
-    while i < n {
-        v = with_digit(v, w[i]);
-        i += 1;
+    let mut v = 0;
+    for d in w {
+        v = with_digit(v, *d);
     }
     v
 }
@@ -118,23 +68,24 @@ fn unnamed(w: &[u8]) -> Word
     Word::Other
 }
 
-// A word, read.
+// A word, read. A `match` on byte strings would tell the proof no more than their lengths.
+#[tactic(auto, using(crate::specs::WordLaws::read_row))]
 pub fn word_of(w: &[u8]) -> Word
     ensures { word_is result ≡ read_as w.now }
 {
-    if same_bytes(w, b"boards") {
+    if w == b"boards".as_slice() {
         return Word::Boards;
     }
-    if same_bytes(w, b"values") {
+    if w == b"values".as_slice() {
         return Word::Values;
     }
-    if same_bytes(w, b"margin") {
+    if w == b"margin".as_slice() {
         return Word::Margin;
     }
-    if same_bytes(w, b"unfold") {
+    if w == b"unfold".as_slice() {
         return Word::Unfold;
     }
-    if same_bytes(w, b"gap") {
+    if w == b"gap".as_slice() {
         return Word::Gap;
     }
     unnamed(w)
@@ -157,12 +108,9 @@ fn ask_one(a: Word) -> Question
 fn ask_two(a: Word, b: Word) -> Question
     ensures { asked_by result ≡ asks (word_is a ∷ word_is b ∷ []) }
 {
-    let Word::Number(q) = b else {
-        return Question::Nothing;
-    };
-    match a {
-        Word::Boards => Question::Boards(q),
-        Word::Values => Question::Values(q),
+    match (a, b) {
+        (Word::Boards, Word::Number(q)) => Question::Boards(q),
+        (Word::Values, Word::Number(q)) => Question::Values(q),
         _ => Question::Nothing,
     }
 }
@@ -171,33 +119,22 @@ fn ask_two(a: Word, b: Word) -> Question
 fn ask_five(a: Word, b: Word, c: Word, d: Word, e: Word) -> Question
     ensures { asked_by result ≡ asks (word_is a ∷ word_is b ∷ word_is c ∷ word_is d ∷ word_is e ∷ []) }
 {
-    let Word::Margin = a else {
-        return Question::Nothing;
-    };
-    let Word::Number(i) = b else {
-        return Question::Nothing;
-    };
-    let Word::Number(j) = c else {
-        return Question::Nothing;
-    };
-    let Word::Number(n) = d else {
-        return Question::Nothing;
-    };
-    let Word::Number(q) = e else {
-        return Question::Nothing;
-    };
-    Question::Margin(i, j, n, q)
+    match (a, b, c, d, e) {
+        (Word::Margin, Word::Number(i), Word::Number(j), Word::Number(n), Word::Number(q)) =>
+            Question::Margin(i, j, n, q),
+        _ => Question::Nothing,
+    }
 }
 
-// What words ask: so many, of which these are the first five. Where there are fewer, the others of the five do not count.
-pub fn question_of(count: usize, a: Word, b: Word, c: Word, d: Word, e: Word) -> Question
-    ensures { Asks count (word_is a ∷ word_is b ∷ word_is c ∷ word_is d ∷ word_is e ∷ []) result }
+// What words ask: all of them, or, of more than five, the first six at least.
+pub fn question_of(words: &[Word]) -> Question
+    ensures { AsksFirst (map word_is words.now) result }
 {
-    match count {
-        0 => Question::Fold,
-        1 => ask_one(a),
-        2 => ask_two(a, b),
-        5 => ask_five(a, b, c, d, e),
+    match *words {
+        [] => Question::Fold,
+        [a] => ask_one(a),
+        [a, b] => ask_two(a, b),
+        [a, b, c, d, e] => ask_five(a, b, c, d, e),
         _ => Question::Nothing,
     }
 }
@@ -206,13 +143,5 @@ pub fn question_of(count: usize, a: Word, b: Word, c: Word, d: Word, e: Word) ->
 pub fn is_asked(q: Question) -> bool
     ensures { result ≡ is_asked (asked_by q) }
 {
-    match q {
-        Question::Fold => true,
-        Question::Boards(_) => true,
-        Question::Values(_) => true,
-        Question::Margin(_, _, _, _) => true,
-        Question::Unfold => true,
-        Question::Gap => true,
-        Question::Nothing => false,
-    }
+    !matches!(q, Question::Nothing)
 }

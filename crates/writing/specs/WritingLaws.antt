@@ -18,6 +18,11 @@ whole_size t = ops_end (table_of t) + length (decider_bytes (who_of t.decider))
 pub table_size : (t : Table) → length t.follow ≡ 32 → t.modes ≤ 32 → length (table_bytes (table_of t)) ≡ whole_size t
 table_size t words few = table_length (table_of t) ∙ rw (words_there t words few)
 
+-- as it is added up, from where its operations end
+pub sized_as : (t : Table) → length t.follow ≡ 32 → t.modes ≤ 32 → {end size : ℕ} → end ≡ ops_end (table_of t) → size ≡ end + length (decider_bytes (who_of t.decider))
+    → length (table_bytes (table_of t)) ≡ size
+sized_as t words few e f = table_size t words few ∙ ap (λ (n : ℕ). n + length (decider_bytes (who_of t.decider))) (sym e) ∙ sym f
+
 -- the head, the operations behind it, and behind them the decider
 pub table_parts : (t : Table)
     → table_bytes (table_of t) ≡ (head_bytes (table_of t) ++ joined bytes_of_op (take t.count t.ops)) ++ decider_bytes (who_of t.decider)

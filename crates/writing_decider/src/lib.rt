@@ -7,16 +7,14 @@ ghost use Rattle.table.specs.Tables.{who_of};
 ghost use Rattle.puts.specs.Puts.{stored};
 ghost use Rattle.writing_decider.specs.WritingDecider.{Byte};
 
-use table::Decider;
-
 // How many bytes there are with the decider's field behind so many.
-pub fn with_decider(at: usize, who: Decider) -> usize
+pub fn with_decider(at: usize, who: Option<usize>) -> usize
     requires { at < 1000 }
     ensures { result ≡ at + length (decider_bytes (who_of who)) }
 {
     match who {
-        Decider::Nobody => at,
-        Decider::Decides(_) => at + 4,
+        None => at,
+        Some(_) => at + 4,
     }
 }
 
@@ -30,12 +28,11 @@ fn put_field(out: &mut [u8], at: usize, d: u32)
 }
 
 // The field where somebody decides, and nothing where nobody does.
-pub fn put_decider(out: &mut [u8], at: usize, who: Decider)
+pub fn put_decider(out: &mut [u8], at: usize, who: Option<usize>)
     requires { (at + length (decider_bytes (who_of who)) ≤ length out.old) × Byte (who_of who) }
     ensures { out.new ≡ stored out.old at (decider_bytes (who_of who)) }
 {
-    match who {
-        Decider::Nobody => (),
-        Decider::Decides(d) => put_field(out, at, d as u32),
+    if let Some(d) = who {
+        put_field(out, at, d as u32);
     }
 }

@@ -28,11 +28,8 @@ fn put_words(out: &mut [u8], t: Table)
     requires { (t.modes ≤ 32) × (ops_place t.modes ≤ length out.old) }
     ensures { out.new ≡ stored out.old 18 (joined be32 (take t.modes t.follow)) }
 {
-    let modes = t.modes as usize;
-    let mut i: usize = 0;
-    while i < modes {
+    for i in 0..t.modes as usize {
         puts::put32(out, 18 + 4 * i, t.follow[i]);
-        i += 1;
     }
 }
 

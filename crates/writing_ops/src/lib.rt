@@ -62,14 +62,11 @@ pub fn put_ops(out: &mut [u8], t: Table) -> usize
     requires { (t.modes ≤ 32) × (t.count ≤ 32) × (ops_end (table_of t) ≤ length out.old) }
     ensures { (out.new ≡ stored out.old (ops_place t.modes) (joined bytes_of_op (take t.count t.ops))) × (result ≡ ops_end (table_of t)) }
 {
-    let count = t.count;
     let mut at = table::ops_place(t.modes);
-    let mut i: usize = 0;
-    while i < count {
+    for i in 0..t.count {
         let o = t.ops[i];
         put_op(out, at, o);
         at += widths::op_width(o);
-        i += 1;
     }
     at
 }

@@ -1,6 +1,6 @@
 -- The first k distances of the block are swept; where it ends early, the others ask for nothing.
 -- Assumes nothing.
-use Prim.Native.Nat.{ℕ, ◌+◌, ◌-◌, ◌<◌, ◌≤◌}
+use Prim.Native.Nat.{ℕ, ◌+◌, ◌<◌}
 use mathlib.Core.List.{List, []}
 use lib.ListN.{get_or}
 use Rattle.turns.specs.Turns.{TurnsBy}
@@ -9,9 +9,6 @@ use Rattle.boards.proofs.sweep_block.Given as goal
 
 abbrev pub invariant-loop-k : goal.invariant-loop-k
 invariant-loop-k l =
-    (l.k ≤ 16) × Sized l.len l.first l.later l.wrong
-    × ((F : List ℕ) (b : ℕ) → ((m : ℕ) → m < 16 → TurnsBy F (l.done + m) (get_or l.rows m []))
+    Sized l.len l.first l.later l.wrong
+    × ((F : List ℕ) (b : ℕ) → ((m : ℕ) → m < 16 → TurnsBy F (l.done + m) (get_or l.row-items m []))
     → Swept F l.cols l.reached l.len b l.done l.q l.initial.later l.initial.wrong → Swept F l.cols l.reached l.len b (l.done + l.k) l.first l.later l.wrong)
-
-abbrev pub decreases-loop-k : goal.decreases-loop-k
-decreases-loop-k l = 16 - l.k

@@ -4,6 +4,4 @@ use mathlib.Core.Path.{◌∙◌}
 use Rattle.calls.proofs.boards_fit.Goals as goal
 
 pub returns : goal.returns
-returns c =
-    let x = c in
-    (_, x.boards_fit-truth.ensures, c.tell.ensures ∙ x.truth_told.ensures)
+returns c = (_, c.boards_fit-truth.ensures, c.tell.ensures ∙ c.truth_told.ensures)

@@ -4,6 +4,4 @@ use mathlib.Core.Path.{◌∙◌}
 use Rattle.calls.proofs.gap.Goals as goal
 
 pub returns : goal.returns
-returns c =
-    let x = c in
-    (_, x.gap_of-found.ensures, c.tell.ensures ∙ x.found_told.ensures)
+returns c = (_, c.gap_of-found.ensures, c.tell.ensures ∙ c.found_told.ensures)

@@ -1,10 +1,11 @@
 -- What `tell` leaves is what is told of the verdict of `judge`, which is that of the rules.
 -- Assumes nothing.
-use mathlib.Core.Path.{◌∙◌}
+use Rattle.std.proofs.Common.{◌∙◌, ap}
+use Rattle.telling.specs.Telling.{told_of, unwritten}
 use Rattle.telling.specs.TellingLaws.{judged_told}
+use Rattle.fields.specs.Verdicts.{answered}
 use Rattle.calls.proofs.judge_numbers.Goals as goal
 
 pub returns : goal.returns
 returns c =
-    let v = c in
-    c.tell.ensures ∙ v.verdict_told.ensures ∙ judged_told v.judge-judged.result v.judge-judged.ensures
+    c.tell.ensures ∙ c.verdict_told.ensures ∙ ap (λ v. told_of (unwritten (answered v))) c.and-outcome.ensures ∙ judged_told _ c.judge.result c.judge.ensures

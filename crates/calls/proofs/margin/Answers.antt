@@ -5,6 +5,4 @@ use Rattle.telling.specs.TellingLaws.{ended_told}
 use Rattle.calls.proofs.margin.Goals as goal
 
 pub returns : goal.returns
-returns c =
-    let x = c in
-    (_, x.margin-measured.ensures, ended_told c.tell.ensures ∙ x.measured_told.ensures)
+returns c = (_, c.margin-measured.ensures, ended_told c.tell.ensures ∙ c.measured_told.ensures)

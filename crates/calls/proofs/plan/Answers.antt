@@ -5,6 +5,4 @@ use Rattle.telling.specs.TellingLaws.{ended_told}
 use Rattle.calls.proofs.plan.Goals as goal
 
 pub returns : goal.returns
-returns c =
-    let x = c in
-    (_, x.plan-reply.ensures, ended_told (c.tell.ensures ∙ x.answer_told.ensures))
+returns c = (_, c.plan-reply.ensures, ended_told (c.tell.ensures ∙ c.answer_told.ensures))

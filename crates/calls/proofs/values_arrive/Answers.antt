@@ -4,6 +4,4 @@ use mathlib.Core.Path.{◌∙◌}
 use Rattle.calls.proofs.values_arrive.Goals as goal
 
 pub returns : goal.returns
-returns c =
-    let x = c in
-    (_, x.values_arrive-truth.ensures, c.tell.ensures ∙ x.truth_told.ensures)
+returns c = (_, c.values_arrive-truth.ensures, c.tell.ensures ∙ c.truth_told.ensures)

@@ -5,6 +5,4 @@ use Rattle.telling.specs.TellingLaws.{ended_told}
 use Rattle.calls.proofs.write.Goals as goal
 
 pub returns : goal.returns
-returns c =
-    let x = c in
-    (_, x.write_table-table.ensures, ended_told (c.tell.ensures ∙ x.answer_told.ensures))
+returns c = (_, c.write_table-table.ensures, ended_told (c.tell.ensures ∙ c.answer_told.ensures))

@@ -5,8 +5,5 @@ use lib.ListN.{length}
 use Rattle.cells.specs.UserLaws.{Adding}
 use Rattle.cells.proofs.add_user.Given as goal
 
-abbrev pub invariant-loop-left : goal.invariant-loop-left
-invariant-loop-left l = (length l.initial.users ≡ 32) × Adding l.initial.users l.k l.cells l.left l.users
-
-abbrev pub decreases-loop-left : goal.decreases-loop-left
-decreases-loop-left l = l.left
+abbrev pub invariant-loop-c : goal.invariant-loop-c
+invariant-loop-c l = (length l.initial.users ≡ 32) × Adding l.initial.users l.k l.cells l.c-iterator.0 l.users

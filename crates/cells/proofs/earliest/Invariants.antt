@@ -4,8 +4,5 @@ use Prim.Native.Nat.{◌≤◌}
 use Rattle.cells.specs.WalkLaws.{Walked, EarlyAt}
 use Rattle.cells.proofs.earliest.Given as goal
 
-abbrev pub invariant-loop-left : goal.invariant-loop-left
-invariant-loop-left l = (l.early ≤ 1000) × Walked (EarlyAt l.cols l.early) l.readers l.left
-
-abbrev pub decreases-loop-left : goal.decreases-loop-left
-decreases-loop-left l = l.left
+abbrev pub invariant-loop-j : goal.invariant-loop-j
+invariant-loop-j l = (l.early ≤ 1000) × Walked (EarlyAt l.cols l.early) l.readers l.j-iterator.0

@@ -7,8 +7,6 @@ use Rattle.cells.proofs.fresh_in.Goals as goal
 pub returns : goal.returns
 unfolding fresh_of
 returns c =
-    let w = c in
-    let s = w in
-    let a = s.args in
-    let e : w.ended_within.result ≡ ended_in a.cols.now a.writers 0 s.start-start.result = w.ended_within.ensures in
-    rw (← s.start-start.ensures, ← e, ← w.modes.ensures) c.without.ensures
+    let a = c.args in
+    let e : c.ended_within.result ≡ ended_in a.cols.now a.writers 0 c.start-start.result = c.ended_within.ensures in
+    rw (← c.start-start.ensures, ← e, ← c.modes.ensures) c.without.ensures

@@ -5,8 +5,5 @@ use lib.ListN.{length}
 use Rattle.cells.specs.WalkLaws.{Walked, FreshAt}
 use Rattle.cells.proofs.fresh_sets.Given as goal
 
-abbrev pub invariant-loop-left : goal.invariant-loop-left
-invariant-loop-left l = (length l.out ≡ 32) × Walked (FreshAt l.cols l.writers l.out) l.readers l.left
-
-abbrev pub decreases-loop-left : goal.decreases-loop-left
-decreases-loop-left l = l.left
+abbrev pub invariant-loop-m : goal.invariant-loop-m
+invariant-loop-m l = (length l.out ≡ 32) × Walked (FreshAt l.cols l.writers l.out) l.readers l.m-iterator.0

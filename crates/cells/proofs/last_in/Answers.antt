@@ -7,8 +7,6 @@ use Rattle.cells.proofs.last_in.Goals as goal
 pub returns : goal.returns
 unfolding last_of
 returns c =
-    let w = c in
-    let s = w in
-    let a = s.args in
-    let e : w.ended_within.result ≡ ended_in a.cols.now a.writers s.end-end.result 1000 = w.ended_within.ensures in
-    rw (← s.end-end.ensures, ← e, ← w.modes.ensures) c.without.ensures
+    let a = c.args in
+    let e : c.ended_within.result ≡ ended_in a.cols.now a.writers c.end-end.result 1000 = c.ended_within.ensures in
+    rw (← c.end-end.ensures, ← e, ← c.modes.ensures) c.without.ensures

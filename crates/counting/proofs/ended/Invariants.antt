@@ -5,8 +5,5 @@ use mathlib.Core.Path.{◌≡◌}
 use Rattle.counting.specs.Counting.{ended_of}
 use Rattle.counting.proofs.ended.Given as goal
 
-abbrev pub invariant-loop-left : goal.invariant-loop-left
-invariant-loop-left l = (l.left ≤ l.ops) × (l.n + ended_of l.cols l.left l.by ≡ ended_of l.cols l.ops l.by)
-
-abbrev pub decreases-loop-left : goal.decreases-loop-left
-decreases-loop-left l = l.left
+abbrev pub invariant-loop-u : goal.invariant-loop-u
+invariant-loop-u l = (l.u-iterator.0 ≤ l.ops) × (l.n + ended_of l.cols l.u-iterator.0 l.by ≡ ended_of l.cols l.ops l.by)

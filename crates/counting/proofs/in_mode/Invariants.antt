@@ -3,8 +3,5 @@
 use Rattle.counting.specs.CountingLaws.{Picked}
 use Rattle.counting.proofs.in_mode.Given as goal
 
-abbrev pub invariant-loop-left : goal.invariant-loop-left
-invariant-loop-left l = Picked l.cols l.ops l.m l.left l.all
-
-abbrev pub decreases-loop-left : goal.decreases-loop-left
-decreases-loop-left l = l.left
+abbrev pub invariant-loop-u : goal.invariant-loop-u
+invariant-loop-u l = Picked l.cols l.ops l.m l.u-iterator.0 l.all

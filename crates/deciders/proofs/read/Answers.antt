@@ -1,17 +1,14 @@
 -- A refusal of what stands before stays; of a table that was accepted the decider is judged.
 -- Assumes nothing.
-use Rattle.table.specs.JudgedLaws.{going_refused, going_accepted}
+use Rattle.std.proofs.lemmas.Result.{err_from_is_err_and}
+use Rattle.table.specs.JudgedLaws.{denied, going_refused, going_accepted}
+use Rattle.deciders.specs.Deciders.{behind_of}
 use Rattle.deciders.proofs.read.Goals as goal
 
-pub read_behind-requires : goal.read_behind-requires
-read_behind-requires c = c.requires c.in-Accepted.is
+pub returns-in_err-judged : goal.returns-in_err-judged
+returns-in_err-judged c =
+    let p = err_from_is_err_and c.from_residual.result c.from_residual.ensures.1 in
+    rw (p.1, p.2, going_refused c.args.judged (behind_of c.args.s.now) _ c.in_err-judged.was) (denied c.in_err-judged.field-0.0)
 
-pub returns-in-Refused : goal.returns-in-Refused
-returns-in-Refused c =
-    let v = c in
-    rw (going_refused v.args.j _ v.in-Refused.q v.in-Refused.is) c.deny.ensures
-
-pub returns-in-Accepted : goal.returns-in-Accepted
-returns-in-Accepted c =
-    let e = c in
-    rw (going_accepted e.args.j _ e.in-Accepted.is) c.read_behind.ensures
+pub returns : goal.returns
+returns c = rw (going_accepted c.args.judged (behind_of c.args.s.now) _ c.in_ok-judged.was) c.read_behind.ensures

@@ -1,101 +1,34 @@
 -- Nothing stands behind the operations where the input is no longer than they are at least; else the field is judged at the place where they end, and who
 -- it names goes into the table.
 -- Assumes nothing.
-use Prim.Native.Nat.{◌+◌, ◌*◌, ◌≤◌}
-use mathlib.Core.Path.{◌≡◌, refl, sym}
-use native.Mathlib.Omega.{arith}
-use lib.ListN.{length}
-use borrow.Author.Rules.{rules}
+use Rattle.std.proofs.Common.{◌+◌, ◌*◌, ◌≤◌, length, refl, sym, arith}
+use Rattle.std.proofs.lemmas.Result.{err_from_is_err_and}
 use Rattle.rules.specs.Judge.{ops_place}
-use Rattle.fields.specs.RefusalLaws.{passed_as, refused_as}
+use Rattle.table.specs.JudgedLaws.{denied}
 use Rattle.table.specs.Tables.{table_of}
-use Rattle.table.specs.TableLaws.{kept_few}
-use Rattle.deciders.specs.DeciderLaws.{test_whole, behind_bad, behind_fine, behind_none, count_is}
+use Rattle.deciders.specs.DeciderLaws.{test_whole, behind_bad, behind_fine, behind_none, count_is, named_by}
 use Rattle.deciders.proofs.read_behind.Goals as goal
-
-pub overflow_mul-t : goal.overflow_mul-t
-overflow_mul-t c =
-    let long : length c.args.t.ops ≡ 32
-    = search rules in
-    let few : c.args.t.count ≤ 32
-    = kept_few c.args.t (long) c.requires in
-    omega (arith, few)
-
-pub overflow_add-ops_place : goal.overflow_add-ops_place
-overflow_add-ops_place c =
-    let long : length c.args.t.ops ≡ 32
-    = search rules in
-    let few : c.args.t.count ≤ 32
-    = kept_few c.args.t (long) c.requires in
-    omega (arith, few, c.ops_place.ensures)
-
-pub named-requires : goal.named-requires
-named-requires c = c.requires
 
 pub returns-then-s-ops_place : goal.returns-then-s-ops_place
 returns-then-s-ops_place c =
-    let long : length c.args.t.ops ≡ 32
-    = search rules in
-    let few : c.args.t.count ≤ 32
-    = kept_few c.args.t (long) c.requires in
-    let holds : c.args.t.count ≤ length c.args.t.ops
-    = omega (arith, few, long) in
-    let i = c in
-    let p = i in
-    let s = p in
-    let t = s.args.t in
-    let over : length s.args.s.now ≤ ops_place t.modes + 21 * t.count = omega (arith, i.if-s-ops_place.true, p.ops_place.ensures) in
-    rw (behind_none (table_of t) refl (count_is t (holds)) s.args.s.now over) c.named.ensures
+    let over : length c.args.s.now ≤ ops_place c.args.t.modes + 21 * c.args.t.count = omega (arith, c.ops_place.ensures) in
+    named_by c.args.t c.requires _ (behind_none (table_of c.args.t) refl (count_is c.args.t c.requires) c.args.s.now over)
 
-pub ops_end-at-requires : goal.ops_end-at-requires
-ops_end-at-requires c =
-    let long : length c.args.t.ops ≡ 32
-    = search rules in
-    let few : c.args.t.count ≤ 32
-    = kept_few c.args.t (long) c.requires in
-    let s = c in (few, long)
+pub returns-in_err-field_test : goal.returns-in_err-field_test
+returns-in_err-field_test c =
+    let q = c.in_err-field_test.field-0.0 in
+    let p = err_from_is_err_and c.from_residual.result c.from_residual.ensures.1 in
+    rw (
+      p.1,
+      p.2,
+      behind_bad (table_of c.args.t) c.ops_end-at.ensures (count_is c.args.t c.requires) c.args.s.now q c.in_err-field_test.ensures,
+    )
+    (denied q)
 
 pub who_at-requires : goal.who_at-requires
-who_at-requires c = test_whole _ _ _ (sym (passed_as c.field_test-v.ensures c.in-Accepted.is))
+who_at-requires c = test_whole _ _ _ (sym c.in_ok-field_test.ensures)
 
-pub named-requires-in-Accepted : goal.named-requires-in-Accepted
-named-requires-in-Accepted c = c.requires
-
-pub returns-in-Refused : goal.returns-in-Refused
-returns-in-Refused c =
-    let long : length c.args.t.ops ≡ 32
-    = search rules in
-    let few : c.args.t.count ≤ 32
-    = kept_few c.args.t (long) c.requires in
-    let holds : c.args.t.count ≤ length c.args.t.ops
-    = omega (arith, few, long) in
-    let v = c in
-    let f = v in
-    let o = f in
-    let s = o in
-    let t = s.args.t in
-    let full = holds in
-    rw
-    (behind_bad (table_of t) o.ops_end-at.ensures (count_is t full) s.args.s.now v.in-Refused.q
-    (refused_as f.field_test-v.ensures v.in-Refused.is))
-    c.deny.ensures
-
-pub returns-in-Accepted : goal.returns-in-Accepted
-returns-in-Accepted c =
-    let long : length c.args.t.ops ≡ 32
-    = search rules in
-    let few : c.args.t.count ≤ 32
-    = kept_few c.args.t (long) c.requires in
-    let holds : c.args.t.count ≤ length c.args.t.ops
-    = omega (arith, few, long) in
-    let w = c in
-    let e = w in
-    let f = e in
-    let o = f in
-    let s = o in
-    let t = s.args.t in
-    let full = holds in
-    rw
-    (behind_fine (table_of t) o.ops_end-at.ensures (count_is t full) s.args.s.now
-    (passed_as f.field_test-v.ensures e.in-Accepted.is) w.who_at.ensures)
-    c.named-in-Accepted.ensures
+pub returns : goal.returns
+returns c =
+    named_by c.args.t c.requires _
+    (behind_fine (table_of c.args.t) c.ops_end-at.ensures (count_is c.args.t c.requires) c.args.s.now c.in_ok-field_test.ensures c.who_at.ensures)

@@ -1,6 +1,6 @@
 -- The bound is raised by the first i operations.
 -- Assumes nothing.
-use Prim.Native.Nat.{◌-◌, ◌≤◌}
+use Prim.Native.Nat.{◌≤◌}
 use Rattle.arrivals.specs.Arrivals.{Each}
 use Rattle.raises.specs.Raises.{Raised}
 use Rattle.gaps.specs.Holders.{HolderFine}
@@ -8,7 +8,4 @@ use Rattle.gaps.proofs.boards_bound.Given as goal
 
 abbrev pub invariant-loop-i : goal.invariant-loop-i
 invariant-loop-i l =
-    (l.i ≤ 32) × (1 ≤ l.most) × (l.most ≤ 1000) × Raised l.bound (Each (HolderFine l.follow l.cols l.reached) l.i) l.most
-
-abbrev pub decreases-loop-i : goal.decreases-loop-i
-decreases-loop-i l = 32 - l.i
+    (1 ≤ l.most) × (l.most ≤ 1000) × Raised l.bound (Each (HolderFine l.follow l.cols l.reached) l.i) l.most

@@ -5,4 +5,4 @@ use Rattle.handed.proofs.head_of.Goals as goal
 
 pub returns : goal.returns
 unfolding padded
-returns c = rw (c.words_of-words.ensures, c.empty-none.ensures)
+returns c = rw (c.words_of.ensures, c.empty.ensures)

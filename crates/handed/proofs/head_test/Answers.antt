@@ -1,85 +1,74 @@
 -- Each return is one outcome of the row of tests.
 -- Assumes nothing.
-use Prim.Native.Nat.{ℕ}
-use mathlib.Core.Path.{sym, ap, ◌∙◌}
-use native.Mathlib.Omega.{arith}
+use Rattle.std.proofs.Common.{ℕ, ◌∷◌, refl, sym, ap, ◌∙◌, arith}
+use Rattle.std.proofs.lemmas.Result.{err_from_is_err_and}
 use Rattle.rules.specs.Verdicts.{refused, ORDER}
 use Rattle.theory.proofs.Ranges.{counts_within, sets_within}
+use Rattle.handed.specs.Handed.{numbers_of}
 use Rattle.handed.specs.HeadLaws.{test_len, test_counts, test_size, test_sets, test_none, test_some, counts_small}
+use Rattle.fields.specs.FieldLaws.{place_fits}
 use Rattle.handed.proofs.head_test.Goals as goal
 
-pub returns-then-len-ne0 : goal.returns-then-len-ne0
-returns-then-len-ne0 c = sym (test_len _ c.len_wrong-len.ensures c.if-len-ne0.true)
+pub returns-in_err-range_test : goal.returns-in_err-range_test
+returns-in_err-range_test c =
+    let p = err_from_is_err_and c.from_residual.result c.from_residual.ensures.1 in
+    rw (p.1, p.2) (test_len (numbers_of c.args.n) _ (c.in_err-range_test.ensures _ c.len_wrong.ensures))
 
-pub overflow_add-result : goal.overflow_add-result
-overflow_add-result c = omega (arith, counts_within _ _ _ c.counts_wrong-counts.ensures)
+pub range_test-requires-2 : goal.range_test-requires-2
+range_test-requires-2 c =
+    place_fits _ 5 _ c.counts_wrong.ensures (omega (arith, counts_within c.args.n.boards c.args.n.cells c.args.n.modes refl))
 
-pub returns-then-counts-ne0 : goal.returns-then-counts-ne0
-returns-then-counts-ne0 c =
-    let x1 = c in
-    sym (test_counts _ (sym x1.len_wrong-len.ensures ∙ x1.if-len-ne0.false) c.counts_wrong-counts.ensures c.if-counts-ne0.true)
+pub returns-in_err-range_test-2 : goal.returns-in_err-range_test-2
+returns-in_err-range_test-2 c =
+    let e0 = c.in_ok-range_test.ensures _ c.len_wrong.ensures in
+    let p = err_from_is_err_and c.from_residual-in_err-range_test-2.result c.from_residual-in_err-range_test-2.ensures.1 in
+    rw (p.1, p.2) (test_counts (numbers_of c.args.n) e0 _ (c.in_err-range_test-2.ensures _ c.counts_wrong.ensures))
 
-pub returns-then-follow-modes : goal.returns-then-follow-modes
-returns-then-follow-modes c =
-    let x2 = c in
-    let x1 = x2 in
-    let e1 = sym x1.len_wrong-len.ensures ∙ x1.if-len-ne0.false in
-    let e2 = sym x2.counts_wrong-counts.ensures ∙ x2.if-counts-ne0.false in
-    sym (test_size _ e1 e2 c.if-follow-modes.true)
+pub returns-then-n : goal.returns-then-n
+returns-then-n c =
+    let e0 = c.in_ok-range_test.ensures _ c.len_wrong.ensures in
+    let e1 = c.in_ok-range_test-2.ensures _ c.counts_wrong.ensures in
+    sym (test_size (numbers_of c.args.n) e0 e1 c.if-n.true)
 
-pub overflow_cast-modes : goal.overflow_cast-modes
-overflow_cast-modes c =
-    let x2 = c in
-    let small = counts_small _ _ _ (sym x2.counts_wrong-counts.ensures ∙ x2.if-counts-ne0.false) in
+pub overflow_cast-n : goal.overflow_cast-n
+overflow_cast-n c =
+    let small = counts_small _ _ _ (c.in_ok-range_test-2.ensures _ c.counts_wrong.ensures) in
     omega arith
 
-pub sets_wrong-sets-requires : goal.sets_wrong-sets-requires
-sets_wrong-sets-requires c =
-    let x2 = c in
-    let small = counts_small _ _ _ (sym x2.counts_wrong-counts.ensures ∙ x2.if-counts-ne0.false) in
+pub sets_wrong-requires : goal.sets_wrong-requires
+sets_wrong-requires c =
+    let small = counts_small _ _ _ (c.in_ok-range_test-2.ensures _ c.counts_wrong.ensures) in
     (small.few_modes, omega arith)
 
-pub overflow_add-result-then-sets-ne0 : goal.overflow_add-result-then-sets-ne0
-overflow_add-result-then-sets-ne0 c =
-    let x3 = c in
-    let x2 = x3 in
-    let small = counts_small _ _ _ (sym x2.counts_wrong-counts.ensures ∙ x2.if-counts-ne0.false) in
-    omega (arith, sets_within _ _ c.sets_wrong-sets.ensures, small.few_modes, x3.if-follow-modes.false)
+pub range_test-requires-3 : goal.range_test-requires-3
+range_test-requires-3 c =
+    let small = counts_small _ _ _ (c.in_ok-range_test-2.ensures _ c.counts_wrong.ensures) in
+    let within = sets_within c.args.n.modes (c.args.n.first ∷ c.args.n.follow.now) refl in
+    place_fits _ 11 _ c.sets_wrong.ensures (omega (arith, within, small.few_modes, c.if-n.false))
 
-pub returns-then-sets-ne0 : goal.returns-then-sets-ne0
-returns-then-sets-ne0 c =
-    let x3 = c in
-    let x2 = x3 in
-    let x1 = x2 in
-    let e1 = sym x1.len_wrong-len.ensures ∙ x1.if-len-ne0.false in
-    let e2 = sym x2.counts_wrong-counts.ensures ∙ x2.if-counts-ne0.false in
-    sym (test_sets _ e1 e2 x3.if-follow-modes.false c.sets_wrong-sets.ensures c.if-sets-ne0.true)
+pub returns-in_err-range_test-3 : goal.returns-in_err-range_test-3
+returns-in_err-range_test-3 c =
+    let e0 = c.in_ok-range_test.ensures _ c.len_wrong.ensures in
+    let e1 = c.in_ok-range_test-2.ensures _ c.counts_wrong.ensures in
+    let p = err_from_is_err_and c.from_residual-in_err-range_test-3.result c.from_residual-in_err-range_test-3.ensures.1 in
+    rw (p.1, p.2) (test_sets (numbers_of c.args.n) e0 e1 c.if-n.false _ (c.in_err-range_test-3.ensures _ c.sets_wrong.ensures))
 
-pub overflow_cast-modes-then-none_left : goal.overflow_cast-modes-then-none_left
-overflow_cast-modes-then-none_left c =
-    let x2 = c in
-    let small = counts_small _ _ _ (sym x2.counts_wrong-counts.ensures ∙ x2.if-counts-ne0.false) in
+pub overflow_cast-n-then-none_left : goal.overflow_cast-n-then-none_left
+overflow_cast-n-then-none_left c =
+    let small = counts_small _ _ _ (c.in_ok-range_test-2.ensures _ c.counts_wrong.ensures) in
     omega arith
 
 pub returns-then-none_left : goal.returns-then-none_left
 returns-then-none_left c =
-    let n = c in
-    let x4 = n in
-    let x3 = x4 in
-    let x2 = x3 in
-    let x1 = x2 in
-    let e1 = sym x1.len_wrong-len.ensures ∙ x1.if-len-ne0.false in
-    let e2 = sym x2.counts_wrong-counts.ensures ∙ x2.if-counts-ne0.false in
-    let e4 = sym x4.sets_wrong-sets.ensures ∙ x4.if-sets-ne0.false in
-    ap (λ (m : ℕ). refused ORDER m 0) c.ops_place.ensures ∙ sym (test_none _ e1 e2 x3.if-follow-modes.false e4 (sym n.none_left.ensures ∙ n.if-none_left.true))
+    let e0 = c.in_ok-range_test.ensures _ c.len_wrong.ensures in
+    let e1 = c.in_ok-range_test-2.ensures _ c.counts_wrong.ensures in
+    let e3 = c.in_ok-range_test-3.ensures _ c.sets_wrong.ensures in
+    ap (λ (m : ℕ). refused ORDER m 0) c.ops_place.ensures
+    ∙ sym (test_none (numbers_of c.args.n) e0 e1 c.if-n.false e3 (sym c.none_left.ensures ∙ c.if-none_left.true))
 
 pub returns : goal.returns
 returns c =
-    let x4 = c in
-    let x3 = x4 in
-    let x2 = x3 in
-    let x1 = x2 in
-    let e1 = sym x1.len_wrong-len.ensures ∙ x1.if-len-ne0.false in
-    let e2 = sym x2.counts_wrong-counts.ensures ∙ x2.if-counts-ne0.false in
-    let e4 = sym x4.sets_wrong-sets.ensures ∙ x4.if-sets-ne0.false in
-    sym (test_some _ e1 e2 x3.if-follow-modes.false e4 (sym c.none_left.ensures ∙ c.if-none_left.false))
+    let e0 = c.in_ok-range_test.ensures _ c.len_wrong.ensures in
+    let e1 = c.in_ok-range_test-2.ensures _ c.counts_wrong.ensures in
+    let e3 = c.in_ok-range_test-3.ensures _ c.sets_wrong.ensures in
+    sym (test_some (numbers_of c.args.n) e0 e1 c.if-n.false e3 (sym c.none_left.ensures ∙ c.if-none_left.false))

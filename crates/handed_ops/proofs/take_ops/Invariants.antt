@@ -5,8 +5,8 @@ use Rattle.table.specs.Tables.{table_of}
 use Rattle.handed_ops.specs.OpsLaws.{Taken}
 use Rattle.handed_ops.proofs.take_ops.Given as goal
 
-abbrev pub invariant-loop-k : goal.invariant-loop-k
-invariant-loop-k l = Taken (table_of l.initial.t) l.ops l.holds l.t l.place
+abbrev pub invariant-loop-counts : goal.invariant-loop-counts
+invariant-loop-counts l = Taken (table_of l.initial.t) l.ops l.holds l.t l.place
 
-abbrev pub decreases-loop-k : goal.decreases-loop-k
-decreases-loop-k l = 33 - l.t.count
+abbrev pub decreases-loop-counts : goal.decreases-loop-counts
+decreases-loop-counts l = 33 - l.t.count

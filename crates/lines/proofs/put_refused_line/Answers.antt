@@ -10,17 +10,15 @@ use Rattle.lines.proofs.put_refused_line.Goals as goal
 
 pub put_line-requires : goal.put_line-requires
 put_line-requires c =
-    let s = c in
-    let f = s.args.f in
+    let f = c.args.f in
     let small : f.number < 2 ^ 32 = search rules in
     let n : f.number < 2 ^ 64 = omega (arith, small) in
     let a : f.a < 2 ^ 64 = search rules in
     let b : f.b < 2 ^ 64 = search rules in
     let short = refused_short f.number f.a f.b n a b in
-    simp length-append (omega (arith, short, simp length-append at (ap length (refused_line_lem f.number f.a f.b)), s.requires))
+    simp length-append (omega (arith, short, simp length-append at (ap length (refused_line_lem f.number f.a f.b)), c.requires))
 
 pub returns : goal.returns
 returns c =
-    let line = c in
-    let a = line.args in
-    rw (refused_line_lem a.f.number a.f.a a.f.b) line.put_line.ensures
+    let f = c.args.f in
+    rw (refused_line_lem f.number f.a f.b) c.put_line.ensures

@@ -9,13 +9,9 @@ use Rattle.lines.proofs.put_row_line.Goals as goal
 
 pub put_line-requires : goal.put_line-requires
 put_line-requires c =
-    let s = c in
-    let r = row_of s.args.r in
-    let short = row_short s.args.i r s.requires.1 s.requires.2 s.requires.3 in
-    simp length-append (omega (arith, short, simp length-append at (ap length (row_line_lem s.args.i r)), s.requires.0))
+    let r = row_of c.args.r in
+    let short = row_short c.args.i r c.requires.1 c.requires.2 c.requires.3 in
+    simp length-append (omega (arith, short, simp length-append at (ap length (row_line_lem c.args.i r)), c.requires.0))
 
 pub returns : goal.returns
-returns c =
-    let line = c in
-    let a = line.args in
-    rw (row_line_lem a.i (row_of a.r)) line.put_line.ensures
+returns c = rw (row_line_lem c.args.i (row_of c.args.r)) c.put_line.ensures

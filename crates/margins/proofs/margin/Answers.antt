@@ -1,29 +1,19 @@
 -- A refusal of the table is the answer; an accepted one is asked.
 -- Assumes nothing.
-use mathlib.Core.Path.{sym, ◌∙◌}
-use Rattle.rules.specs.Judge.{judge}
-use Rattle.theory.proofs.Judging.{judge_accepted}
-use Rattle.fields.specs.RefusalLaws.{onwards_refusal}
-use Rattle.table.specs.JudgedLaws.{judged_accepted, judged_refused, took_good}
-use Rattle.asks.specs.AskLaws.{accepted_on}
+use Rattle.std.proofs.Common.{sym, ◌∙◌}
+use Rattle.theory.proofs.Verdicts.{onwards_accepts}
+use Rattle.fields.specs.RefusalLaws.{onwards_refusal, err_again}
+use Rattle.table.specs.JudgedLaws.{judged_refused}
+use Rattle.reading.specs.ReadLaws.{reads}
 use Rattle.margins.proofs.margin.Goals as goal
 
+pub returns-in_err-t : goal.returns-in_err-t
+returns-in_err-t c =
+    let r = c.in_err-t.field-0.0 in
+    rw (err_again c.from_residual.result r c.from_residual.ensures.1) (sym (onwards_refusal r _ (judged_refused _ r c.in_err-t.ensures)))
+
 pub margin_of-requires : goal.margin_of-requires
-margin_of-requires c =
-    let read = c.read-judged in
-    let took = judged_accepted (judge _) read.result read.ensures c.in-Accepted.is in
-    took_good took (judge_accepted _ took.table took.said)
+margin_of-requires c = (reads _ _ c.in_ok-t.ensures).good
 
-pub returns-in-Refused : goal.returns-in-Refused
-returns-in-Refused c =
-    let verdict = c in
-    let read = verdict.read-judged in
-    sym (onwards_refusal verdict.in-Refused.r _ (judged_refused (judge _) read.result verdict.in-Refused.r read.ensures verdict.in-Refused.is))
-
-pub returns-in-Accepted : goal.returns-in-Accepted
-returns-in-Accepted c =
-    let told = c in
-    let read = told.read-judged in
-    let took = judged_accepted (judge _) read.result read.ensures told.in-Accepted.is in
-    let ok = judge_accepted _ took.table took.said in
-    c.margin_of.ensures ∙ accepted_on _ took ok
+pub returns : goal.returns
+returns c = c.margin_of.ensures ∙ sym (onwards_accepts _ (reads _ _ c.in_ok-t.ensures).said)

@@ -1,102 +1,53 @@
 -- The users that were visited are offered.
 -- Assumes nothing.
-use Prim.Native.Nat.{◌+◌, ◌-◌, ◌*◌, ◌^◌, ◌<◌, ◌≤◌}
-use mathlib.Core.Path.{◌≡◌, refl}
-use native.Mathlib.Omega.{arith}
-use lib.ListN.{length, get_or}
-use Rattle.theory.specs.Tests.{without}
+use Rattle.std.proofs.Common.{◌≡◌, ◌+◌, ◌-◌, ◌*◌, ◌<◌, ◌≤◌, length, refl, arith, length-set}
+use Rattle.std.proofs.lemmas.Fn.{says_at}
 use Rattle.theory.proofs.Sets.{in_small}
-use Rattle.sets.specs.Members.{rest_less}
+use Rattle.sets.specs.Members.{rest_within}
+use Rattle.columns.specs.Columns.{dates}
 use Rattle.counting.specs.Counting.{ended_of}
 use Rattle.counting.specs.CountingLaws.{ended_mono}
-use Rattle.offers.specs.OfferLaws.{date_short, offering_none, offering_more, offering_all}
+use Rattle.offers.specs.OfferLaws.{offering_none, offering_more, offering_all}
 use Rattle.offers.proofs.offer_users.Goals as goal
 
-pub loop-left-init : goal.loop-left-init
-loop-left-init c = offering_none _ _ _ _ _ _
+pub loop-u-init : goal.loop-u-init
+loop-u-init g c =
+    rw c.into_iter-u-iterator.ensures.into_iter_gives
+    (record { inside = λ j h. h; long = refl; offered = λ date same. offering_none _ _ _ _ _ _ })
 
-pub lowest-u-requires : goal.lowest-u-requires
-lowest-u-requires c = omega arith
-
-pub overflow_cast-j : goal.overflow_cast-j
-overflow_cast-j c = omega arith
-
-pub overflow_add-at : goal.overflow_add-at
-overflow_add-at c = omega arith
-
-pub offset_bounds-cols-at : goal.offset_bounds-cols-at
-offset_bounds-cols-at c =
-    let small : c.lowest-u.result < 32
-    = in_small _ 32 _ (omega arith) (c.loop-left.invariant.inside _ c.lowest-u.ensures.member) in
-    omega (arith, small)
-
-pub bounds-cols-at : goal.bounds-cols-at
-bounds-cols-at c =
-    let small : c.lowest-u.result < 32
-    = in_small _ 32 _ (omega arith) (c.loop-left.invariant.inside _ c.lowest-u.ensures.member) in
-    omega (arith, small)
+pub bounds-cols-j : goal.bounds-cols-j
+bounds-cols-j g c = in_small _ 32 _ (omega arith) (c.loop-u.invariant.inside _ c.in-Some.ensures.steps.0.member)
 
 pub overflow_sub-ahead : goal.overflow_sub-ahead
-overflow_sub-ahead c =
-    let small : c.lowest-u.result < 32
-    = in_small _ 32 _ (omega arith) (c.loop-left.invariant.inside _ c.lowest-u.ensures.member) in
-    let u = c in
-    let s = u in
-    let a = s.args in
-    let date = get_or a.cols.now (a.at + u.lowest-u.result) 0 in
-    let early : date ≤ 1000 = date_short s.requires.0 (a.at + u.lowest-u.result) (omega (arith, small)) in
-    omega (arith, s.ended-all.ensures.0, c.ended.ensures.0, ended_mono a.cols.now a.writers date 1000 early)
-
-pub overflow_cast-ahead : goal.overflow_cast-ahead
-overflow_cast-ahead c = omega arith
-
-pub overflow_mul-ahead : goal.overflow_mul-ahead
-overflow_mul-ahead c = omega arith
-
-pub overflow_add-ahead : goal.overflow_add-ahead
-overflow_add-ahead c = omega arith
+overflow_sub-ahead g c =
+    let small : c.in-Some.u < 32
+    = in_small _ 32 _ (omega arith) (c.loop-u.invariant.inside _ c.in-Some.ensures.steps.0.member) in
+    let early : c.since.result ≤ 1000 = c.requires.early _ _ small (says_at g.F.Fn c.since.ensures refl) in
+    omega (arith, c.ended-all.ensures.0, c.ended.ensures.0, ended_mono c.args.cols.now c.args.writers c.since.result 1000 early)
 
 pub end-requires : goal.end-requires
-end-requires c =
-    let small : c.lowest-u.result < 32
-    = in_small _ 32 _ (omega arith) (c.loop-left.invariant.inside _ c.lowest-u.ensures.member) in
-    let u = c in (small, u.requires.0)
+end-requires g c =
+    (in_small _ 32 _ (omega arith) (c.loop-u.invariant.inside _ c.in-Some.ensures.steps.0.member), c.requires.sized.0)
 
-pub offer-requires : goal.offer-requires
-offer-requires c =
-    let i = c in
-    let s = i in
-    (omega (arith, s.ended-all.ensures.1), omega (arith, s.requires.3, i.loop-left.invariant.long))
-
-pub rest-left-requires : goal.rest-left-requires
-rest-left-requires c =
-    let small : c.lowest-u.result < 32
-    = in_small _ 32 _ (omega arith) (c.loop-left.invariant.inside _ c.lowest-u.ensures.member) in
-    small
-
-pub loop-left-smaller : goal.loop-left-smaller
-loop-left-smaller c =
-    let u = c in
-    let left = u.loop-left.left in
-    let e : c.rest-left.result ≡ without left (2 ^ u.lowest-u.result) = c.rest-left.ensures in
-    rw e (rest_less left u.lowest-u.result u.lowest-u.ensures.member)
-
-pub loop-left-preserved : goal.loop-left-preserved
-loop-left-preserved c =
-    let offered = c in
-    let counted = c in
-    let u = counted in
-    let i = u.loop-left in
-    let s = u in
-    let a = s.args in
-    let e : c.rest-left.result ≡ without i.left (2 ^ u.lowest-u.result) = c.rest-left.ensures in
-    let all : s.ended-all.result ≡ ended_of a.cols.now a.writers 1000 = s.ended-all.ensures.0 in
-    let date = get_or a.cols.now (a.at + u.lowest-u.result) 0 in
-    let by : counted.ended.result ≡ ended_of a.cols.now a.writers date = counted.ended.ensures.0 in
-    let k = 32 * (s.ended-all.result - counted.ended.result) + a.m in
-    let low : k < length i.ring = omega (arith, s.ended-all.ensures.1, s.requires.3, i.invariant.long) in
-    rw (e, offered.offer.ensures)
-    (offering_more u.lowest-u.result _ _ u.lowest-u.ensures.member low (rw (all, by) refl) c.end.ensures i.invariant)
+pub loop-u-preserved : goal.loop-u-preserved
+loop-u-preserved g c =
+    let (lowest, left) = c.in-Some.ensures.steps in
+    let i = c.loop-u in
+    let a = c.args in
+    let u = c.in-Some.u in
+    let all : c.ended-all.result ≡ ended_of a.cols.now a.writers 1000 = c.ended-all.ensures.0 in
+    let by : c.ended.result ≡ ended_of a.cols.now a.writers c.since.result = c.ended.ensures.0 in
+    let k = 32 * (c.ended-all.result - c.ended.result) + a.m in
+    let low : k < length i.ring = omega (arith, c.ended-all.ensures.1, c.requires.sized.2, i.invariant.long) in
+    record {
+      inside = rw left (rest_within a.users i.u-iterator.0 u i.invariant.inside lowest.member);
+      long = rw c.offer.ensures (simp length-set i.invariant.long);
+      offered =
+          λ date same.
+          let at : c.since.result ≡ date (dates a.cols.now u) = same _ _ (says_at g.F.Fn c.since.ensures refl) in
+          rw (left, c.offer.ensures)
+          (offering_more u _ _ lowest.member low (rw (all, by, at) refl) c.end.ensures (i.invariant.offered date same));
+    }
 
 pub returns : goal.returns
-returns c = let e : c.loop-left.left ≡ 0 = omega arith in offering_all (rw e at c.loop-left.invariant)
+returns g c = λ date same. offering_all (rw c.in-None.ensures.steps.0 at c.loop-u.invariant.offered date same)

@@ -7,34 +7,24 @@ use Rattle.period.specs.PeriodLaws.{columns_asked, columns_found, first_is_perio
 use Rattle.period.proofs.smallest.Goals as goal
 
 pub columns-cols-requires : goal.columns-cols-requires
-columns-cols-requires c = let s = c in columns_asked s.args.t s.requires
+columns-cols-requires c = columns_asked c.args.t c.requires
 
 pub values_bound-bound-requires : goal.values_bound-bound-requires
 values_bound-bound-requires c =
-    let k = c in
-    let s = k in
-    values_asked_lem s.args.t s.requires k.columns-cols.result (columns_found s.args.t k.columns-cols.ensures)
+    values_asked_lem c.args.t c.requires c.columns-cols.result (columns_found c.args.t c.columns-cols.ensures)
 
 pub first_right-requires : goal.first_right-requires
 first_right-requires c =
-    let v = c in
-    let r = v in
-    let k = r in
-    let s = k in
-    let t = s.args.t in
-    let bound : IsBound (table_of t) r.reached-reached.result v.values_bound-bound.result
-    = values_found t s.requires k.columns-cols.result (columns_found s.args.t k.columns-cols.ensures) _ _ v.values_bound-bound.ensures in
-    let (long, short, ends, high) = boards_asked_lem t s.requires k.columns-cols.result (columns_found s.args.t k.columns-cols.ensures) in
-    (long, short, ends, high, omega (arith, bound.low), omega (arith, bound.high, s.requires.accepted.len_low))
+    let t = c.args.t in
+    let bound : IsBound (table_of t) c.reached-reached.result c.values_bound-bound.result
+    = values_found t c.requires c.columns-cols.result (columns_found c.args.t c.columns-cols.ensures) _ _ c.values_bound-bound.ensures in
+    let (long, short, ends, high) = boards_asked_lem t c.requires c.columns-cols.result (columns_found c.args.t c.columns-cols.ensures) in
+    (long, short, ends, high, omega (arith, bound.low), omega (arith, bound.high, c.requires.accepted.len_low))
 
 pub returns : goal.returns
 returns c =
-    let v = c in
-    let r = v in
-    let k = r in
-    let s = k in
-    let t = s.args.t in
-    let bound : IsBound (table_of t) r.reached-reached.result v.values_bound-bound.result
-    = values_found t s.requires k.columns-cols.result (columns_found s.args.t k.columns-cols.ensures) _ _ v.values_bound-bound.ensures in
-    let found = boards_found t s.requires k.columns-cols.result (columns_found s.args.t k.columns-cols.ensures) r.reached-reached.result v.values_bound-bound.result c.first_right.result bound.low c.first_right.ensures in
-    first_is_period (table_of t) s.requires.accepted r.reached-reached.result (reach_found t s.requires _ r.reached-reached.ensures) v.values_bound-bound.result c.first_right.result bound found
+    let t = c.args.t in
+    let bound : IsBound (table_of t) c.reached-reached.result c.values_bound-bound.result
+    = values_found t c.requires c.columns-cols.result (columns_found c.args.t c.columns-cols.ensures) _ _ c.values_bound-bound.ensures in
+    let found = boards_found t c.requires c.columns-cols.result (columns_found c.args.t c.columns-cols.ensures) c.reached-reached.result c.values_bound-bound.result c.first_right.result bound.low c.first_right.ensures in
+    first_is_period (table_of t) c.requires.accepted c.reached-reached.result (reach_found t c.requires _ c.reached-reached.ensures) c.values_bound-bound.result c.first_right.result bound found

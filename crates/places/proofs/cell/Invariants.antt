@@ -1,6 +1,6 @@
 -- What is known before row s: the numbers below it are differences, how far the rows reach, and what waits.
 -- Assumes nothing.
-use Prim.Native.Nat.{ℕ, ◌+◌, ◌-◌, ◌<◌, ◌≤◌}
+use Prim.Native.Nat.{ℕ, ◌+◌, ◌≤◌, ◌%◌}
 use mathlib.Core.Path.{◌≡◌}
 use lib.ListN.{length}
 use Rattle.rules.specs.Table.{Table}
@@ -10,8 +10,5 @@ use Rattle.places.proofs.cell.Given as goal
 
 abbrev pub invariant-loop-s : goal.invariant-loop-s
 invariant-loop-s l =
-    (l.s ≤ 32001) × (l.slot < 33) × (l.far ≤ l.s + 32) × (length l.ring ≡ 1056) × Low l.ring 1056
-    × ((T : Table) (c : ℕ) → CellOf T c l.cols l.follow l.reached l.writers l.readers → Known T l.q c l.s l.far l.slot l.ring)
-
-abbrev pub decreases-loop-s : goal.decreases-loop-s
-decreases-loop-s l = 32001 - l.s
+    (l.far ≤ l.s + 32) × (length l.ring ≡ 1056) × Low l.ring 1056
+    × ((T : Table) (c : ℕ) → CellOf T c l.cols l.follow l.reached l.writers l.readers → Known T l.q c l.s l.far (l.s % 33) l.ring)

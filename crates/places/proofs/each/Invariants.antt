@@ -1,6 +1,6 @@
 -- The places of the first c cells are there.
 -- Assumes nothing.
-use Prim.Native.Nat.{ℕ, ◌-◌, ◌<◌, ◌≤◌}
+use Prim.Native.Nat.{ℕ, ◌<◌}
 use mathlib.Core.Path.{◌≡◌}
 use lib.ListN.{length, get_or}
 use Rattle.rules.specs.Places.{IsPlaces}
@@ -8,7 +8,4 @@ use Rattle.table.specs.Tables.{table_of}
 use Rattle.places.proofs.each.Given as goal
 
 abbrev pub invariant-loop-c : goal.invariant-loop-c
-invariant-loop-c l = (l.c ≤ l.t.cells) × (length l.out ≡ 32) × ((d : ℕ) → d < l.c → IsPlaces (table_of l.t) l.q d (get_or l.out d 0))
-
-abbrev pub decreases-loop-c : goal.decreases-loop-c
-decreases-loop-c l = l.t.cells - l.c
+invariant-loop-c l = (length l.out ≡ 32) × ((d : ℕ) → d < l.c → IsPlaces (table_of l.fn.t) l.q d (get_or l.out d 0))

@@ -1,29 +1,18 @@
 -- A refusal of the table is the answer; an accepted one is planned.
 -- Assumes nothing.
-use Rattle.rules.specs.Judge.{judge}
-use Rattle.theory.proofs.Judging.{judge_accepted}
-use Rattle.table.specs.JudgedLaws.{judged_accepted, judged_refused, took_good, took_table}
+use Rattle.table.specs.JudgedLaws.{judged_refused}
+use Rattle.fields.specs.RefusalLaws.{err_again}
+use Rattle.reading.specs.ReadLaws.{reads}
 use Rattle.plans.specs.Plans.{plan_refused, plan_accepted}
 use Rattle.plans.proofs.plan.Goals as goal
 
+pub returns-in_err-t : goal.returns-in_err-t
+returns-in_err-t c =
+    let r = c.in_err-t.field-0.0 in
+    rw (err_again c.from_residual.result r c.from_residual.ensures.1) (plan_refused _ _ r (judged_refused _ r c.in_err-t.ensures))
+
 pub plan_table-requires : goal.plan_table-requires
-plan_table-requires c =
-    let told = c in
-    let read = told.read-judged in
-    let took = judged_accepted (judge _) read.result read.ensures told.in-Accepted.is in
-    took_good took (judge_accepted _ took.table took.said)
+plan_table-requires c = (reads _ _ c.in_ok-t.ensures).good
 
-pub returns-in-Refused : goal.returns-in-Refused
-returns-in-Refused c =
-    let verdict = c in
-    let read = verdict.read-judged in
-    plan_refused _ _ verdict.in-Refused.r (judged_refused (judge _) read.result verdict.in-Refused.r read.ensures verdict.in-Refused.is)
-
-pub returns-in-Accepted : goal.returns-in-Accepted
-returns-in-Accepted c =
-    let planned = c in
-    let told = planned in
-    let read = told.read-judged in
-    let took = judged_accepted (judge _) read.result read.ensures told.in-Accepted.is in
-    let ok = judge_accepted _ took.table took.said in
-    plan_accepted _ _ took.table _ took.said (rw (← took_table took ok) planned.plan_table.ensures)
+pub returns : goal.returns
+returns c = plan_accepted _ _ _ _ (reads _ _ c.in_ok-t.ensures).said c.plan_table.ensures

@@ -1,20 +1,8 @@
--- Four stores, one behind the other.
+-- The four bytes.
 -- Assumes nothing.
 use native.Mathlib.Omega.{arith}
-use native.Mathlib.Numerals.{towards_suc}
-use lib.ListN.{length-set}
-use Rattle.puts.specs.Puts.{stored}
+use Rattle.puts.specs.PutLaws.{stored_over}
 use Rattle.puts.proofs.put32.Goals as goal
 
-pub bounds-out-at-2 : goal.bounds-out-at-2
-bounds-out-at-2 c = simp length-set (omega arith)
-
-pub bounds-out-at-3 : goal.bounds-out-at-3
-bounds-out-at-3 c = simp length-set (omega arith)
-
-pub bounds-out-at-4 : goal.bounds-out-at-4
-bounds-out-at-4 c = simp length-set (omega arith)
-
 pub returns : goal.returns
-unfolding stored
-returns c = simp towards_suc
+returns c = stored_over c.args.out.now c.args.at _ (rw c.to_be_bytes.ensures at c.copy_from_slice.ensures.after) (omega arith) c.requires

@@ -1,36 +1,27 @@
--- A refusal of the table stays; an accepted one is asked.
+-- A refusal of the table stays; of an accepted one it is ASK at place 0 unless q is from 1 to the length.
 -- Assumes nothing.
-use mathlib.Core.Path.{sym, subst, ◌∙◌}
-use Rattle.rules.specs.Table.{Table}
-use Rattle.rules.specs.Judge.{judge}
-use Rattle.rules.specs.Verdicts.{Verdict, accepted, ◌then◌}
-use Rattle.rules.specs.Answers.{period_asked}
-use Rattle.theory.proofs.Judging.{judge_accepted}
-use Rattle.fields.specs.RefusalLaws.{onwards_refusal}
-use Rattle.table.specs.Tables.{JudgedAs}
-use Rattle.table.specs.JudgedLaws.{judged_accepted, judged_refused, took_good}
-use Rattle.asks.specs.AskLaws.{accepted_on}
+use Rattle.std.proofs.Common.{arith}
+use Rattle.fields.specs.RefusalLaws.{err_again}
+use Rattle.fields.specs.declared.Refusal.TheVariants.{Ask}
+use Rattle.table.specs.Tables.{table_of}
+use Rattle.table.specs.JudgedLaws.{denied, granted}
+use Rattle.reading.specs.ReadLaws.{reads}
+use Rattle.asks.specs.AskLaws.{range_in, range_out}
+use Rattle.questions.specs.QuestionLaws.{asked_unread, asked_denied, asked_granted}
 use Rattle.questions.proofs.ask.Goals as goal
 
-pub ask_table-requires : goal.ask_table-requires
-ask_table-requires c =
-    let read = c.read-judged in
-    let took = judged_accepted (judge _) read.result read.ensures c.in-Accepted.is in
-    took_good took (judge_accepted _ took.table took.said)
+pub returns-in_err-t : goal.returns-in_err-t
+returns-in_err-t c =
+    let r = c.in_err-t.field-0.0 in
+    rw (err_again c.from_residual.result r c.from_residual.ensures.1, asked_unread c.args.s.now c.args.q r c.in_err-t.ensures) (denied r)
 
-pub returns-in-Refused : goal.returns-in-Refused
-returns-in-Refused c =
-    let verdict = c in
-    let read = verdict.read-judged in
-    let r = verdict.in-Refused.r in
-    let whole = judged_refused (judge _) read.result r read.ensures verdict.in-Refused.is in
-    subst (λ (v : Verdict Table). JudgedAs v read.result) (whole ∙ sym (onwards_refusal r _ whole)) read.ensures
+pub returns-then-not-in_range : goal.returns-then-not-in_range
+returns-then-not-in_range c =
+    let k = reads _ _ c.in_ok-t.ensures in
+    rw (asked_denied k c.args.q (λ l h. range_out c.in_range.ensures c.if-not-in_range.true-raw (omega (arith, l), omega (arith, h)))) (denied (Ask 0))
 
-pub returns-in-Accepted : goal.returns-in-Accepted
-returns-in-Accepted c =
-    let told = c in
-    let read = told.read-judged in
-    let took = judged_accepted (judge _) read.result read.ensures told.in-Accepted.is in
-    let ok = judge_accepted _ took.table took.said in
-    let q = told.args.q in
-    subst (λ (v : Verdict Table). JudgedAs v c.ask_table.result) (accepted_on (λ (T : Table). period_asked T q 0 then accepted T) took ok) c.ask_table.ensures
+pub returns : goal.returns
+returns c =
+    let k = reads _ _ c.in_ok-t.ensures in
+    let q = range_in c.in_range.ensures c.if-not-in_range.false-raw in
+    granted (table_of c.in_ok-t.t) (asked_granted k c.args.q (omega (arith, q.0)) (omega (arith, q.1))) k.good.tidy

@@ -1,30 +1,24 @@
 -- A refusal of the table, or of what is asked, is the answer; else it is the engine's.
 -- Assumes nothing.
-use native.Mathlib.Omega.{arith}
-use Rattle.rules.specs.Answers.{Arrive}
-use Rattle.questions.specs.QuestionLaws.{asked_accepted, yes_no_refused, yes_no_accepted}
+use Rattle.std.proofs.Common.{arith}
+use Rattle.rules.specs.Answers.{YesFor, Arrive}
+use Rattle.theory.proofs.Asking.{accepted_answers}
+use Rattle.fields.specs.RefusalLaws.{err_again}
+use Rattle.table.specs.JudgedLaws.{judged_refused}
+use Rattle.asks.specs.AskLaws.{refused_answers}
+use Rattle.questions.specs.QuestionLaws.{asked_accepted}
 use Rattle.questions.proofs.values_arrive.Goals as goal
 
+pub returns-in_err-t : goal.returns-in_err-t
+returns-in_err-t c =
+    let r = c.in_err-t.field-0.0 in
+    rw (err_again c.from_residual.result r c.from_residual.ensures.1) (refused_answers (YesFor Arrive c.args.q) r (judged_refused _ r c.in_err-t.ensures))
+
 pub overflow_cast-q : goal.overflow_cast-q
-overflow_cast-q c =
-    let asked = c.ask-judged in
-    let x = asked_accepted _ c.args.q asked.result asked.ensures c.in-Accepted.is in
-    omega (arith, x.high, x.good.accepted.len_high)
+overflow_cast-q c = let x = asked_accepted _ c.args.q _ c.in_ok-t.ensures in omega (arith, x.high, x.good.accepted.len_high)
 
 pub values_arrive-requires : goal.values_arrive-requires
-values_arrive-requires c =
-    let asked = c.ask-judged in
-    let x = asked_accepted _ c.args.q asked.result asked.ensures c.in-Accepted.is in
-    (x.good, omega (arith, x.low))
+values_arrive-requires c = let x = asked_accepted _ c.args.q _ c.in_ok-t.ensures in (x.good, omega (arith, x.low))
 
-pub returns-in-Refused : goal.returns-in-Refused
-returns-in-Refused c =
-    let verdict = c in
-    let asked = verdict.ask-judged in
-    yes_no_refused Arrive _ verdict.args.q asked.result asked.ensures verdict.in-Refused.r verdict.in-Refused.is
-
-pub returns-in-Accepted : goal.returns-in-Accepted
-returns-in-Accepted c =
-    let told = c in
-    let asked = told.ask-judged in
-    yes_no_accepted Arrive _ told.args.q asked.result asked.ensures told.in-Accepted.is c.values_arrive.ensures
+pub returns : goal.returns
+returns c = let x = asked_accepted _ c.args.q _ c.in_ok-t.ensures in accepted_answers (YesFor Arrive c.args.q) x.said c.values_arrive.ensures

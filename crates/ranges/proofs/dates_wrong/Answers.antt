@@ -1,71 +1,65 @@
 -- The tests in the order of the definition; the dates are compared without a sum that could wrap.
 -- Assumes nothing.
-use Prim.Native.Nat.{◌+◌, ◌<◌, ◌≤◌}
-use mathlib.Core.Path.{◌≡◌, sym}
-use mathlib.Core.Bool.{true, false}
-use native.Mathlib.Omega.{arith}
-use borrow.Author.Tests.{not-true, not-false}
+use Rattle.std.proofs.Common.{◌≡◌, ℕ, ◌+◌, ◌<◌, ◌≤◌, Option, None, Some, sym, ap, ◌∙◌, is_some, arith}
+use Rattle.std.proofs.Math.Path.{subst⁻¹}
+use Rattle.fields.specs.Fields.{IsPlace}
+use Rattle.ranges.specs.declared.Wide.{Wide}
+use Rattle.ranges.specs.Ranges.{wide_of, dates_of}
 use Rattle.ranges.specs.RangeLaws.{start_large, no_time, late, dates_plain, no_hold, held_past, dates_held}
 use Rattle.ranges.proofs.dates_wrong.Goals as goal
 
-pub returns-then-w-gt65535 : goal.returns-then-w-gt65535
-returns-then-w-gt65535 c = sym (start_large _ _ _ c.if-w-gt65535.true)
+-- the dates with the hold that there is, or none
+hold_is : (len : ℕ) (w : Wide) (h : Option ℕ) → w.hold ≡ h → dates_of len (is_some w.hold) (wide_of w) ≡ dates_of len (is_some h) (wide_of (record w { hold = h }))
+hold_is len w h e = ap (λ (x : Option ℕ). dates_of len (is_some x) (wide_of (record w { hold = x }))) e
 
-pub returns-then-w-lt1 : goal.returns-then-w-lt1
-returns-then-w-lt1 c = let a = c.args in
-    let f : a.w.start < 65536 = omega arith in
-    sym (no_time _ _ f _ c.if-w-lt1.true)
+pub returns-then-w-gt65535 : goal.returns-then-w-gt65535
+returns-then-w-gt65535 c = (sym (start_large c.args.len (wide_of c.args.w) (is_some c.args.w.hold) c.if-w-gt65535.true), omega arith)
+
+pub returns-then-w-lt-LEAST_DUR : goal.returns-then-w-lt-LEAST_DUR
+returns-then-w-lt-LEAST_DUR c =
+    let fits : c.args.w.start < 65536 = omega arith in
+    (sym (no_time c.args.len (wide_of c.args.w) fits (is_some c.args.w.hold) c.if-w-lt-LEAST_DUR.true), omega arith)
 
 pub returns-then-p-w : goal.returns-then-p-w
-returns-then-p-w c = let a = c.args in
-    let f : a.w.start < 65536 = omega arith in
-    let h : 1 ≤ a.w.dur = omega arith in
-    let l : a.len < a.w.start + a.w.dur = omega arith in
-    sym (late _ _ f _ h l)
+returns-then-p-w c =
+    let fits : c.args.w.start < 65536 = omega arith in
+    let past : c.args.len < c.args.w.start + c.args.w.dur = omega arith in
+    (sym (late c.args.len (wide_of c.args.w) fits (is_some c.args.w.hold) c.if-w-lt-LEAST_DUR.false past), omega arith)
 
 pub returns-then-p-w-2 : goal.returns-then-p-w-2
-returns-then-p-w-2 c = let a = c.args in
-    let f : a.w.start < 65536 = omega arith in
-    let h : 1 ≤ a.w.dur = omega arith in
-    let l : a.len < a.w.start + a.w.dur = omega arith in
-    sym (late _ _ f _ h l)
+returns-then-p-w-2 c =
+    let fits : c.args.w.start < 65536 = omega arith in
+    let past : c.args.len < c.args.w.start + c.args.w.dur = omega arith in
+    (sym (late c.args.len (wide_of c.args.w) fits (is_some c.args.w.hold) c.if-w-lt-LEAST_DUR.false past), omega arith)
 
-pub returns-then-not-w : goal.returns-then-not-w
-returns-then-not-w c = let a = c.args in
-    let f : a.w.start < 65536 = omega arith in
-    let h : 1 ≤ a.w.dur = omega arith in
-    let l : a.w.start + a.w.dur ≤ a.len = omega arith in
-    let e : a.w.held ≡ false = not-true _ c.if-not-w.true in
-    sym (rw e (dates_plain _ _ f h l))
+pub returns-in_err-hold : goal.returns-in_err-hold
+returns-in_err-hold c =
+    let fits : c.args.w.start < 65536 = omega arith in
+    let ends : c.args.w.start + c.args.w.dur ≤ c.args.len = omega arith in
+    let plain = hold_is c.args.len c.args.w None c.in_err-hold.was ∙ dates_plain c.args.len (wide_of (record c.args.w { hold = None })) fits c.if-w-lt-LEAST_DUR.false ends in
+    subst⁻¹ (λ (r : Option ℕ). IsPlace r (dates_of c.args.len (is_some c.args.w.hold) (wide_of c.args.w))) c.from_residual.ensures (sym plain)
 
-pub returns-then-w-lt1-2 : goal.returns-then-w-lt1-2
-returns-then-w-lt1-2 c = let a = c.args in
-    let f : a.w.start < 65536 = omega arith in
-    let h : 1 ≤ a.w.dur = omega arith in
-    let l : a.w.start + a.w.dur ≤ a.len = omega arith in
-    let e : a.w.held ≡ true = not-false _ c.if-not-w.false in
-    let none : a.w.hold < 1 = omega arith in
-    sym (rw e (no_hold _ _ f h l none))
-
-pub overflow_sub-p-3 : goal.overflow_sub-p-3
-overflow_sub-p-3 c = omega arith
+pub returns-then-hold-lt-LEAST_HOLD : goal.returns-then-hold-lt-LEAST_HOLD
+returns-then-hold-lt-LEAST_HOLD c =
+    let fits : c.args.w.start < 65536 = omega arith in
+    let ends : c.args.w.start + c.args.w.dur ≤ c.args.len = omega arith in
+    let held = hold_is c.args.len c.args.w (Some c.in_ok-hold.hold) c.in_ok-hold.was in
+    (sym (held ∙ no_hold c.args.len (wide_of (record c.args.w { hold = Some c.in_ok-hold.hold })) fits c.if-w-lt-LEAST_DUR.false ends c.if-hold-lt-LEAST_HOLD.true), omega arith)
 
 pub returns-then-p-w-3 : goal.returns-then-p-w-3
-returns-then-p-w-3 c = let a = c.args in
-    let f : a.w.start < 65536 = omega arith in
-    let h : 1 ≤ a.w.dur = omega arith in
-    let l : a.w.start + a.w.dur ≤ a.len = omega arith in
-    let e : a.w.held ≡ true = not-false _ c.if-not-w.false in
-    let some : 1 ≤ a.w.hold = omega arith in
-    let past : a.len < a.w.start + a.w.dur + a.w.hold = omega arith in
-    sym (rw e (held_past _ _ f h l some past))
+returns-then-p-w-3 c =
+    let fits : c.args.w.start < 65536 = omega arith in
+    let ends : c.args.w.start + c.args.w.dur ≤ c.args.len = omega arith in
+    let past : c.args.len < c.args.w.start + c.args.w.dur + c.in_ok-hold.hold = omega arith in
+    let held = hold_is c.args.len c.args.w (Some c.in_ok-hold.hold) c.in_ok-hold.was in (
+      sym (held ∙ held_past c.args.len (wide_of (record c.args.w { hold = Some c.in_ok-hold.hold })) fits c.if-w-lt-LEAST_DUR.false ends c.if-hold-lt-LEAST_HOLD.false past),
+      omega arith,
+    )
 
 pub returns : goal.returns
-returns c = let a = c.args in
-    let f : a.w.start < 65536 = omega arith in
-    let h : 1 ≤ a.w.dur = omega arith in
-    let l : a.w.start + a.w.dur ≤ a.len = omega arith in
-    let e : a.w.held ≡ true = not-false _ c.if-not-w.false in
-    let some : 1 ≤ a.w.hold = omega arith in
-    let within : a.w.start + a.w.dur + a.w.hold ≤ a.len = omega arith in
-    sym (rw e (dates_held _ _ f h l some within))
+returns c =
+    let fits : c.args.w.start < 65536 = omega arith in
+    let ends : c.args.w.start + c.args.w.dur ≤ c.args.len = omega arith in
+    let within : c.args.w.start + c.args.w.dur + c.in_ok-hold.hold ≤ c.args.len = omega arith in
+    let held = hold_is c.args.len c.args.w (Some c.in_ok-hold.hold) c.in_ok-hold.was in
+    sym (held ∙ dates_held c.args.len (wide_of (record c.args.w { hold = Some c.in_ok-hold.hold })) fits c.if-w-lt-LEAST_DUR.false ends c.if-hold-lt-LEAST_HOLD.false within)

@@ -1,56 +1,55 @@
 -- Each number is in range, and so fits 32 bits.
 -- Assumes nothing.
-use Prim.Native.Nat.{◌^◌, ◌<◌}
-use native.Mathlib.Omega.{arith}
-use Rattle.ranges.specs.Ranges.{counted, wide_of}
-use Rattle.ranges.specs.RangeLaws.{OpSmall, op_small}
+use Rattle.std.proofs.Common.{◌≡◌, ◌^◌, ◌<◌, arith, is_some}
+use Rattle.rules.specs.Judge.{op_wrong}
+use Rattle.ranges.specs.Ranges.{wide_of, sized}
+use Rattle.ranges.specs.RangeLaws.{OpSmall, op_small, wide_plain}
+use Rattle.ranges.specs.declared.in_range.Counts.{Counts}
+use Rattle.ranges.specs.declared.Wide.{Wide}
 use Rattle.ranges.proofs.narrow.Goals as goal
+
+small : (counts : Counts) (w : Wide) → counts.len < 2 ^ 32 → op_wrong (sized counts) (is_some w.hold) (wide_of w) ≡ 0 → OpSmall (wide_of w)
+small counts w h e =
+    op_small (sized counts) (is_some w.hold) (wide_of w) h (counts.few_boards, counts.few_cells, counts.few_modes) (wide_plain w) e
 
 pub overflow_cast-result : goal.overflow_cast-result
 overflow_cast-result c =
-    let a = c.args in
-    let h : a.len < 2 ^ 32 = omega arith in
-    let small : OpSmall (wide_of a.w) = op_small (counted a.len a.boards a.cells a.modes) a.w.held (wide_of a.w) h (c.requires.0, c.requires.1, c.requires.2) c.requires.3 c.requires.4 in
-    omega (arith, small.start)
+    let h : c.args.counts.len < 2 ^ 32 = omega arith in
+    let fits = small c.args.counts c.args.w h c.requires in
+    omega (arith, fits.start)
 
 pub overflow_cast-result-2 : goal.overflow_cast-result-2
 overflow_cast-result-2 c =
-    let a = c.args in
-    let h : a.len < 2 ^ 32 = omega arith in
-    let small : OpSmall (wide_of a.w) = op_small (counted a.len a.boards a.cells a.modes) a.w.held (wide_of a.w) h (c.requires.0, c.requires.1, c.requires.2) c.requires.3 c.requires.4 in
-    omega (arith, small.dur)
+    let h : c.args.counts.len < 2 ^ 32 = omega arith in
+    let fits = small c.args.counts c.args.w h c.requires in
+    omega (arith, fits.dur)
 
 pub overflow_cast-result-3 : goal.overflow_cast-result-3
 overflow_cast-result-3 c =
-    let a = c.args in
-    let h : a.len < 2 ^ 32 = omega arith in
-    let small : OpSmall (wide_of a.w) = op_small (counted a.len a.boards a.cells a.modes) a.w.held (wide_of a.w) h (c.requires.0, c.requires.1, c.requires.2) c.requires.3 c.requires.4 in
-    omega (arith, small.hold)
+    let h : c.args.counts.len < 2 ^ 32 = omega arith in
+    let fits = small c.args.counts c.args.w h c.requires in
+    omega (arith, fits.hold)
 
 pub overflow_cast-result-4 : goal.overflow_cast-result-4
 overflow_cast-result-4 c =
-    let a = c.args in
-    let h : a.len < 2 ^ 32 = omega arith in
-    let small : OpSmall (wide_of a.w) = op_small (counted a.len a.boards a.cells a.modes) a.w.held (wide_of a.w) h (c.requires.0, c.requires.1, c.requires.2) c.requires.3 c.requires.4 in
-    omega (arith, small.boards)
+    let h : c.args.counts.len < 2 ^ 32 = omega arith in
+    let fits = small c.args.counts c.args.w h c.requires in
+    omega (arith, fits.boards)
 
 pub overflow_cast-result-5 : goal.overflow_cast-result-5
 overflow_cast-result-5 c =
-    let a = c.args in
-    let h : a.len < 2 ^ 32 = omega arith in
-    let small : OpSmall (wide_of a.w) = op_small (counted a.len a.boards a.cells a.modes) a.w.held (wide_of a.w) h (c.requires.0, c.requires.1, c.requires.2) c.requires.3 c.requires.4 in
-    omega (arith, small.reads)
+    let h : c.args.counts.len < 2 ^ 32 = omega arith in
+    let fits = small c.args.counts c.args.w h c.requires in
+    omega (arith, fits.reads)
 
 pub overflow_cast-result-6 : goal.overflow_cast-result-6
 overflow_cast-result-6 c =
-    let a = c.args in
-    let h : a.len < 2 ^ 32 = omega arith in
-    let small : OpSmall (wide_of a.w) = op_small (counted a.len a.boards a.cells a.modes) a.w.held (wide_of a.w) h (c.requires.0, c.requires.1, c.requires.2) c.requires.3 c.requires.4 in
-    omega (arith, small.writes)
+    let h : c.args.counts.len < 2 ^ 32 = omega arith in
+    let fits = small c.args.counts c.args.w h c.requires in
+    omega (arith, fits.writes)
 
 pub overflow_cast-result-7 : goal.overflow_cast-result-7
 overflow_cast-result-7 c =
-    let a = c.args in
-    let h : a.len < 2 ^ 32 = omega arith in
-    let small : OpSmall (wide_of a.w) = op_small (counted a.len a.boards a.cells a.modes) a.w.held (wide_of a.w) h (c.requires.0, c.requires.1, c.requires.2) c.requires.3 c.requires.4 in
-    omega (arith, small.modes)
+    let h : c.args.counts.len < 2 ^ 32 = omega arith in
+    let fits = small c.args.counts c.args.w h c.requires in
+    omega (arith, fits.modes)

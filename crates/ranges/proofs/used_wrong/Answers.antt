@@ -11,48 +11,44 @@ use Rattle.ranges.proofs.used_wrong.Goals as goal
 
 pub returns-then-not-is_set_of : goal.returns-then-not-is_set_of
 unfolding sets_of
-returns-then-not-is_set_of c = let a = c.args in
-    let e : set_ok a.boards a.w.boards ≡ false = sym c.is_set_of.ensures ∙ c.if-not-is_set_of.true in
-    sym (rw e)
+returns-then-not-is_set_of c =
+    let w = c.args.w in
+    let e : set_ok c.args.counts.boards w.boards ≡ false = sym c.is_set_of.ensures ∙ c.if-not-is_set_of.true in
+    (sym (rw e), omega arith)
 
 pub returns-then-not-is_within : goal.returns-then-not-is_within
 unfolding sets_of
-returns-then-not-is_within c = let x5 = c in
-    let a = x5.args in
-    let e5 : set_ok a.boards a.w.boards ≡ true = sym x5.is_set_of.ensures ∙ x5.if-not-is_set_of.false in
-    let e : ltb a.w.reads (2 ^ a.cells) ≡ false = sym c.is_within.ensures ∙ c.if-not-is_within.true in
-    sym (rw (e5, e))
+returns-then-not-is_within c =
+    let w = c.args.w in
+    let e5 : set_ok c.args.counts.boards w.boards ≡ true = sym c.is_set_of.ensures ∙ c.if-not-is_set_of.false in
+    let e : ltb w.reads (2 ^ c.args.counts.cells) ≡ false = sym c.is_within.ensures ∙ c.if-not-is_within.true in
+    (sym (rw (e5, e)), omega arith)
 
 pub returns-then-not-is_within-2 : goal.returns-then-not-is_within-2
 unfolding sets_of
-returns-then-not-is_within-2 c = let x6 = c in
-    let x5 = x6 in
-    let a = x5.args in
-    let e5 : set_ok a.boards a.w.boards ≡ true = sym x5.is_set_of.ensures ∙ x5.if-not-is_set_of.false in
-    let e6 : ltb a.w.reads (2 ^ a.cells) ≡ true = sym x6.is_within.ensures ∙ x6.if-not-is_within.false in
-    let e : ltb a.w.writes (2 ^ a.cells) ≡ false = sym c.is_within-2.ensures ∙ c.if-not-is_within-2.true in
-    sym (rw (e5, e6, e) (omega arith))
+returns-then-not-is_within-2 c =
+    let w = c.args.w in
+    let e5 : set_ok c.args.counts.boards w.boards ≡ true = sym c.is_set_of.ensures ∙ c.if-not-is_set_of.false in
+    let e6 : ltb w.reads (2 ^ c.args.counts.cells) ≡ true = sym c.is_within.ensures ∙ c.if-not-is_within.false in
+    let e : ltb w.writes (2 ^ c.args.counts.cells) ≡ false = sym c.is_within-2.ensures ∙ c.if-not-is_within-2.true in
+    (sym (rw (e5, e6, e) (omega arith)), omega arith)
 
 pub returns-then-not-is_set_of-2 : goal.returns-then-not-is_set_of-2
 unfolding sets_of
-returns-then-not-is_set_of-2 c = let x7 = c in
-    let x6 = x7 in
-    let x5 = x6 in
-    let a = x5.args in
-    let e5 : set_ok a.boards a.w.boards ≡ true = sym x5.is_set_of.ensures ∙ x5.if-not-is_set_of.false in
-    let e6 : ltb a.w.reads (2 ^ a.cells) ≡ true = sym x6.is_within.ensures ∙ x6.if-not-is_within.false in
-    let e7 : ltb a.w.writes (2 ^ a.cells) ≡ true = sym x7.is_within-2.ensures ∙ x7.if-not-is_within-2.false in
-    let e : set_ok a.modes a.w.modes ≡ false = sym c.is_set_of-2.ensures ∙ c.if-not-is_set_of-2.true in
-    sym (rw (e5, e6, e7, e) (omega arith))
+returns-then-not-is_set_of-2 c =
+    let w = c.args.w in
+    let e5 : set_ok c.args.counts.boards w.boards ≡ true = sym c.is_set_of.ensures ∙ c.if-not-is_set_of.false in
+    let e6 : ltb w.reads (2 ^ c.args.counts.cells) ≡ true = sym c.is_within.ensures ∙ c.if-not-is_within.false in
+    let e7 : ltb w.writes (2 ^ c.args.counts.cells) ≡ true = sym c.is_within-2.ensures ∙ c.if-not-is_within-2.false in
+    let e : set_ok c.args.counts.modes w.modes ≡ false = sym c.is_set_of-2.ensures ∙ c.if-not-is_set_of-2.true in
+    (sym (rw (e5, e6, e7, e) (omega arith)), omega arith)
 
 pub returns : goal.returns
 unfolding sets_of
-returns c = let x7 = c in
-    let x6 = x7 in
-    let x5 = x6 in
-    let a = x5.args in
-    let e5 : set_ok a.boards a.w.boards ≡ true = sym x5.is_set_of.ensures ∙ x5.if-not-is_set_of.false in
-    let e6 : ltb a.w.reads (2 ^ a.cells) ≡ true = sym x6.is_within.ensures ∙ x6.if-not-is_within.false in
-    let e7 : ltb a.w.writes (2 ^ a.cells) ≡ true = sym x7.is_within-2.ensures ∙ x7.if-not-is_within-2.false in
-    let e8 : set_ok a.modes a.w.modes ≡ true = sym c.is_set_of-2.ensures ∙ c.if-not-is_set_of-2.false in
+returns c =
+    let w = c.args.w in
+    let e5 : set_ok c.args.counts.boards w.boards ≡ true = sym c.is_set_of.ensures ∙ c.if-not-is_set_of.false in
+    let e6 : ltb w.reads (2 ^ c.args.counts.cells) ≡ true = sym c.is_within.ensures ∙ c.if-not-is_within.false in
+    let e7 : ltb w.writes (2 ^ c.args.counts.cells) ≡ true = sym c.is_within-2.ensures ∙ c.if-not-is_within-2.false in
+    let e8 : set_ok c.args.counts.modes w.modes ≡ true = sym c.is_set_of-2.ensures ∙ c.if-not-is_set_of-2.false in
     sym (rw (e5, e6, e7, e8))

@@ -1,34 +1,23 @@
 -- The dates decide where one of them is wrong, and the sets where none is.
 -- Assumes nothing.
-use Prim.Native.Nat.{ℕ}
-use mathlib.Core.Path.{◌≡◌, refl, sym, ap, ◌∙◌}
-use native.Mathlib.Omega.{arith}
-use Rattle.rules.specs.Table.{Op}
-use Rattle.ranges.specs.Ranges.{wide_of, counted, dates_of, sets_of}
+use Rattle.std.proofs.Common.{◌≡◌, ℕ, ◌<◌, sym, ap, ◌∙◌, subst, is_some, arith}
+use Rattle.fields.specs.Fields.{IsPlace}
+use Rattle.ranges.specs.Ranges.{wide_of, sized, dates_of, used_at, sets_of}
 use Rattle.ranges.specs.RangeLaws.{op_dates, op_sets}
 use Rattle.ranges.proofs.wide_wrong.Goals as goal
 
--- the sets do not depend on the length
-same : (boards cells modes len place : ℕ) (o : Op) → sets_of (counted 0 boards cells modes) place o ≡ sets_of (counted len boards cells modes) place o
-unfolding sets_of
-same boards cells modes len place o = refl
+pub returns-in-Some : goal.returns-in-Some
+returns-in-Some c =
+    let o = wide_of c.args.w in
+    let held = is_some c.args.w.hold in
+    let (e, some) : (c.in-Some.place ≡ dates_of c.args.counts.len held o) × (0 < c.in-Some.place) = c.in-Some.ensures in
+    (e ∙ sym (op_dates (sized c.args.counts) o held (λ h. omega arith)), some)
 
-pub returns-then-dates-ne0 : goal.returns-then-dates-ne0
-returns-then-dates-ne0 c = let a = c.args in
-    let e = c.dates_wrong-dates.ensures in
-    e ∙ sym (op_dates (counted a.len a.boards a.cells a.modes) (wide_of a.w) a.w.held (λ h. omega (arith, h, e)))
-
-pub used_wrong-requires : goal.used_wrong-requires
-used_wrong-requires c = let s = c in
-    (s.requires.0, s.requires.1, s.requires.2, c.used_place.ensures.1)
-
-pub returns : goal.returns
-returns c = let x = c in
-    let s = x in
-    let a = s.args in
-    let T = counted a.len a.boards a.cells a.modes in
-    let none : dates_of a.len a.w.held (wide_of a.w) ≡ 0 = omega (arith, x.dates_wrong-dates.ensures) in
-    c.used_wrong.ensures
-    ∙ same a.boards a.cells a.modes a.len _ (wide_of a.w)
-    ∙ ap (λ (place : ℕ). sets_of T place (wide_of a.w)) x.used_place.ensures.0
-    ∙ sym (op_sets T (wide_of a.w) a.w.held none)
+pub returns-in-None : goal.returns-in-None
+returns-in-None c =
+    let T = sized c.args.counts in
+    let o = wide_of c.args.w in
+    let held = is_some c.args.w.hold in
+    let place : c.used_place.result ≡ _ = c.used_place.ensures.0 ∙ ap (λ b. used_at b) c.is_some.ensures in
+    let sets = ap (λ (at : ℕ). sets_of T at o) place ∙ sym (op_sets T o held (sym c.in-None.ensures)) in
+    subst (λ (n : ℕ). IsPlace c.used_wrong.result n) sets c.used_wrong.ensures

@@ -7,9 +7,7 @@ pub read-requires : goal.read-requires
 read-requires c = fields_tidy _ c.read_fields.ensures
 
 pub judge-requires : goal.judge-requires
-judge-requires c = whole_ready _ (rw (fields_behind _ c.read_fields.ensures) at c.read.ensures)
+judge-requires c = whole_ready _ (rw (fields_behind _ _ c.read_fields.ensures) at c.read.ensures)
 
 pub returns : goal.returns
-returns c =
-    let r = c in
-    rw (fields_whole _ (rw (fields_behind _ r.read_fields.ensures) at r.read.ensures)) c.judge.ensures
+returns c = rw (fields_whole _ _ (rw (fields_behind _ _ c.read_fields.ensures) at c.read.ensures)) c.judge.ensures

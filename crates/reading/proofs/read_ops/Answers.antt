@@ -1,140 +1,49 @@
 -- The operations so far are those that come before the rest, and the table holds them.
 -- Assumes nothing.
-use mathlib.Core.Path.{◌≡◌, sym, ap, ◌∙◌}
-use mathlib.Core.Bool.{false}
-use native.Mathlib.Omega.{arith}
+use Rattle.std.proofs.Common.{◌≡◌, ap, ◌∙◌, arith}
 use Rattle.rules.specs.Bytes.{op_size}
-use Rattle.rules.specs.Judge.{head_of, ops_done, size_at}
-use Rattle.reading_ops.specs.ReadingOps.{next_of}
+use Rattle.rules.specs.Judge.{size_at}
+use Rattle.fields.specs.RefusalLaws.{err_again}
+use Rattle.table.specs.JudgedLaws.{denied}
 use Rattle.heads.specs.HeadLaws.{head_fits}
-use Rattle.reading.specs.ReadingLaws.{More, first_place, so_none, so_fits, done_is, done_inside, so_bad, so_more, so_end}
+use Rattle.reading.specs.ReadingLaws.{first_place, so_none, so_few, head_few, done_is, at_inside, next_bad, next_more, so_end}
 use Rattle.reading.proofs.read_ops.Goals as goal
 
 pub read_head-t-requires : goal.read_head-t-requires
 read_head-t-requires c = c.requires
 
-pub loop-k-init : goal.loop-k-init
-loop-k-init c =
+pub invariant_of-counts : goal.invariant_of-counts
+invariant_of-counts c =
+    let few = head_few c.read_head-t.ensures (head_fits c.args.s.now c.requires) in
+    record { few_boards = few.0; few_cells = few.1; few_modes = few.2 }
+
+pub loop-counts-init : goal.loop-counts-init
+loop-counts-init c =
     let e = c.read_head-t.ensures in
     (c.ops_place-first.ensures ∙ first_place _ _ e, rw c.ops_place-first.ensures (so_none _ _ e))
 
 pub held_at-held-requires : goal.held_at-held-requires
-held_at-held-requires c =
-    let on : let i = c in let s = i.args.s.now in ops_done (head_of s) s i.loop-k.at ≡ false
-    = let d = c in done_is _ _ _ d.loop-k.invariant.0 d.ops_done.ensures ∙ c.loop-k-test.true in
-    omega (arith, done_inside _ _ (on))
+held_at-held-requires c = omega (arith, at_inside c.loop-counts.invariant.1 c.read_head-t.ensures c.loop-counts.invariant.0 c.ops_done.ensures c.loop-counts-test.true)
 
 pub overflow_sub-k : goal.overflow_sub-k
-overflow_sub-k c =
-    let i = c in
-    let a = i in
-    omega (arith, (so_fits i.loop-k.invariant.1 (head_fits a.args.s.now a.requires)).0)
+overflow_sub-k c = omega (arith, so_few c.loop-counts.invariant.1)
 
-pub next_op-next-requires : goal.next_op-next-requires
-next_op-next-requires c =
-    let on : let i = c in let s = i.args.s.now in ops_done (head_of s) s i.loop-k.at ≡ false
-    = let d = c in done_is _ _ _ d.loop-k.invariant.0 d.ops_done.ensures ∙ c.loop-k-test.true in
-    let i = c in
-    let a = i in
-    let fits = so_fits i.loop-k.invariant.1 (head_fits a.args.s.now a.requires) in
-    (done_inside _ _ (on), c.held_at-held.ensures, fits.1, fits.2, fits.3)
+pub next_op-requires : goal.next_op-requires
+next_op-requires c = (at_inside c.loop-counts.invariant.1 c.read_head-t.ensures c.loop-counts.invariant.0 c.ops_done.ensures c.loop-counts-test.true, c.held_at-held.ensures)
 
-pub returns-in-Bad : goal.returns-in-Bad
-returns-in-Bad c =
-    let on : let i = c in let s = i.args.s.now in ops_done (head_of s) s i.loop-k.at ≡ false
-    = let d = c in done_is _ _ _ d.loop-k.invariant.0 d.ops_done.ensures ∙ c.loop-k-test.true in
-    let n = c in
-    let f = n in
-    let i = f in
-    rw (so_bad i.loop-k.invariant.1 n.in-Bad.r (on) (ap next_of (sym n.in-Bad.is) ∙ f.next_op-next.ensures)) c.deny.ensures
-
-pub offset_bounds-t-k : goal.offset_bounds-t-k
-offset_bounds-t-k c =
-    let on : let i = c in let s = i.args.s.now in ops_done (head_of s) s i.loop-k.at ≡ false
-    = let d = c in done_is _ _ _ d.loop-k.invariant.0 d.ops_done.ensures ∙ c.loop-k-test.true in
-    let passed : let i = c in
-    More i.args.s.now i.loop-k.t i.loop-k.at c.in-Here.o
-    = let n = c in
-    let f = n in
-    let i = f in
-    so_more i.loop-k.invariant.1 n.in-Here.o (on) (ap next_of (sym n.in-Here.is) ∙ f.next_op-next.ensures) in
-    omega (arith, (passed).some)
+pub returns-in_err-t : goal.returns-in_err-t
+returns-in_err-t c =
+    let r = c.in_err-t.field-0.0 in
+    rw (err_again c.from_residual.result r c.from_residual.ensures.1, next_bad c.loop-counts.invariant.1 c.read_head-t.ensures c.loop-counts.invariant.0 c.ops_done.ensures c.loop-counts-test.true r c.in_err-t.ensures) (denied r)
 
 pub bounds-t-k : goal.bounds-t-k
-bounds-t-k c =
-    let on : let i = c in let s = i.args.s.now in ops_done (head_of s) s i.loop-k.at ≡ false
-    = let d = c in done_is _ _ _ d.loop-k.invariant.0 d.ops_done.ensures ∙ c.loop-k-test.true in
-    let passed : let i = c in
-    More i.args.s.now i.loop-k.t i.loop-k.at c.in-Here.o
-    = let n = c in
-    let f = n in
-    let i = f in
-    so_more i.loop-k.invariant.1 n.in-Here.o (on) (ap next_of (sym n.in-Here.is) ∙ f.next_op-next.ensures) in
-    (passed).some
+bounds-t-k c = (next_more c.loop-counts.invariant.1 c.read_head-t.ensures c.loop-counts.invariant.0 c.ops_done.ensures c.loop-counts-test.true _ c.in_ok-t.ensures).some
 
-pub overflow_add-t : goal.overflow_add-t
-overflow_add-t c =
-    let on : let i = c in let s = i.args.s.now in ops_done (head_of s) s i.loop-k.at ≡ false
-    = let d = c in done_is _ _ _ d.loop-k.invariant.0 d.ops_done.ensures ∙ c.loop-k-test.true in
-    let passed : let i = c in
-    More i.args.s.now i.loop-k.t i.loop-k.at c.in-Here.o
-    = let n = c in
-    let f = n in
-    let i = f in
-    so_more i.loop-k.invariant.1 n.in-Here.o (on) (ap next_of (sym n.in-Here.is) ∙ f.next_op-next.ensures) in
-    omega (arith, (passed).some)
-
-pub overflow_add-at : goal.overflow_add-at
-overflow_add-at c = omega (arith, c.size.ensures.1)
-
-pub overflow_add-at-in-loop-k : goal.overflow_add-at-in-loop-k
-overflow_add-at-in-loop-k c =
-    let on : let i = c in let s = i.args.s.now in ops_done (head_of s) s i.loop-k.at ≡ false
-    = let d = c in done_is _ _ _ d.loop-k.invariant.0 d.ops_done.ensures ∙ c.loop-k-test.true in
-    let passed : let i = c in
-    More i.args.s.now i.loop-k.t i.loop-k.at c.in-Here.o
-    = let n = c in
-    let f = n in
-    let i = f in
-    so_more i.loop-k.invariant.1 n.in-Here.o (on) (ap next_of (sym n.in-Here.is) ∙ f.next_op-next.ensures) in
-    let stepped : let i = c in
-    c.size.result ≡ size_at i.args.s.now i.loop-k.at
-    = c.size.ensures.0 ∙ ap op_size c.held_at-held.ensures in
-    omega (arith, (passed).whole, stepped, c.well_formed.0.0)
-
-pub loop-k-smaller : goal.loop-k-smaller
-loop-k-smaller c =
-    let on : let i = c in let s = i.args.s.now in ops_done (head_of s) s i.loop-k.at ≡ false
-    = let d = c in done_is _ _ _ d.loop-k.invariant.0 d.ops_done.ensures ∙ c.loop-k-test.true in
-    let passed : let i = c in
-    More i.args.s.now i.loop-k.t i.loop-k.at c.in-Here.o
-    = let n = c in
-    let f = n in
-    let i = f in
-    so_more i.loop-k.invariant.1 n.in-Here.o (on) (ap next_of (sym n.in-Here.is) ∙ f.next_op-next.ensures) in
-    let stepped : let i = c in
-    c.size.result ≡ size_at i.args.s.now i.loop-k.at
-    = c.size.ensures.0 ∙ ap op_size c.held_at-held.ensures in
-    omega (arith, (passed).whole, stepped)
-
-pub loop-k-preserved : goal.loop-k-preserved
-loop-k-preserved c =
-    let on : let i = c in let s = i.args.s.now in ops_done (head_of s) s i.loop-k.at ≡ false
-    = let d = c in done_is _ _ _ d.loop-k.invariant.0 d.ops_done.ensures ∙ c.loop-k-test.true in
-    let passed : let i = c in
-    More i.args.s.now i.loop-k.t i.loop-k.at c.in-Here.o
-    = let n = c in
-    let f = n in
-    let i = f in
-    so_more i.loop-k.invariant.1 n.in-Here.o (on) (ap next_of (sym n.in-Here.is) ∙ f.next_op-next.ensures) in
-    let stepped : let i = c in
-    c.size.result ≡ size_at i.args.s.now i.loop-k.at
-    = c.size.ensures.0 ∙ ap op_size c.held_at-held.ensures in
-    let i = c in
-    (i.loop-k.invariant.0, rw (stepped) (passed).so)
+pub loop-counts-preserved : goal.loop-counts-preserved
+loop-counts-preserved c =
+    let more = next_more c.loop-counts.invariant.1 c.read_head-t.ensures c.loop-counts.invariant.0 c.ops_done.ensures c.loop-counts-test.true _ c.in_ok-t.ensures in
+    let stepped : c.size.result ≡ size_at c.args.s.now c.loop-counts.at = c.size.ensures.0 ∙ ap op_size c.held_at-held.ensures in
+    (c.loop-counts.invariant.0, rw stepped more.so)
 
 pub returns : goal.returns
-returns c =
-    let d = c in
-    let v = d.loop-k.invariant in
-    so_end v.1 (done_is _ _ _ v.0 d.ops_done.ensures ∙ c.loop-k-test.false)
+returns c = so_end c.loop-counts.invariant.1 (done_is _ _ _ c.loop-counts.invariant.0 c.ops_done.ensures ∙ c.loop-counts-test.false)

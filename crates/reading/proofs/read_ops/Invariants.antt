@@ -7,8 +7,8 @@ use Rattle.rules.specs.Judge.{head_of, ops_place}
 use Rattle.reading.specs.ReadingLaws.{SoFar}
 use Rattle.reading.proofs.read_ops.Given as goal
 
-abbrev pub invariant-loop-k : goal.invariant-loop-k
-invariant-loop-k l = (l.first ≡ ops_place (head_of l.s).modes) × SoFar l.s l.t l.at
+abbrev pub invariant-loop-counts : goal.invariant-loop-counts
+invariant-loop-counts l = (l.first ≡ ops_place (head_of l.s).modes) × SoFar l.s l.t l.at
 
-abbrev pub decreases-loop-k : goal.decreases-loop-k
-decreases-loop-k l = length l.s - l.at
+abbrev pub decreases-loop-counts : goal.decreases-loop-counts
+decreases-loop-counts l = length l.s - l.at

@@ -1,7 +1,7 @@
 -- Each number is read at its place.
 -- Assumes nothing.
 use Prim.Native.Nat.{ℕ, ◌+◌, ◌≤◌}
-use mathlib.Core.Path.{refl, ap}
+use mathlib.Core.Path.{ap}
 use native.Mathlib.Omega.{arith}
 use lib.ListN.{length}
 use Rattle.theory.proofs.Judging.{form_least}
@@ -52,15 +52,9 @@ be32-requires-3 c =
 
 pub returns : goal.returns
 returns c =
-    let b6 = c in
-    let b5 = b6 in
-    let b4 = b5 in
-    let h = b4 in
-    let b2 = h in
-    let b1 = b2 in
-    let u = b1 in
-    let a = u.args in (
-      rw (b1.be16.ensures.0, b2.be16-2.ensures.0, h.hold_at.ensures, b4.be16-3.ensures.0, b5.be32.ensures, b6.be32-2.ensures, c.be32-3.ensures)
-          (op_read a.held a.s.now a.at _ (ap (λ (n : ℕ). a.at + n) u.used_place.ensures.0)),
-      refl,
+    let a = c.args in
+    let hold = c.hold_at.ensures in (
+      rw (c.be16.ensures.0, c.be16-2.ensures.0, hold.1, c.be16-3.ensures.0, c.be32.ensures, c.be32-2.ensures, c.be32-3.ensures)
+          (op_read a.held a.s.now a.at _ (ap (λ (n : ℕ). a.at + n) c.used_place.ensures.0)),
+      hold.0,
     )

@@ -3,8 +3,5 @@
 use Rattle.remains.specs.RemainLaws.{Passing}
 use Rattle.remains.proofs.pass.Given as goal
 
-abbrev pub invariant-loop-left : goal.invariant-loop-left
-invariant-loop-left l = Passing l.follow l.idle l.q l.left l.initial.row l.row
-
-abbrev pub decreases-loop-left : goal.decreases-loop-left
-decreases-loop-left l = l.left
+abbrev pub invariant-loop-m : goal.invariant-loop-m
+invariant-loop-m l = Passing l.follow l.idle l.q l.m-iterator.0 l.initial.row l.row

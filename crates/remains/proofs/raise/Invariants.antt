@@ -5,8 +5,5 @@ use lib.ListN.{length}
 use Rattle.remains.specs.RemainLaws.{Lifting}
 use Rattle.remains.proofs.raise.Given as goal
 
-abbrev pub invariant-loop-left : goal.invariant-loop-left
-invariant-loop-left l = (length l.initial.row ≡ 32) × Lifting l.modes l.x l.left l.initial.row l.row
-
-abbrev pub decreases-loop-left : goal.decreases-loop-left
-decreases-loop-left l = l.left
+abbrev pub invariant-loop-m : goal.invariant-loop-m
+invariant-loop-m l = (length l.initial.row ≡ 32) × Lifting l.modes l.x l.m-iterator.0 l.initial.row l.row

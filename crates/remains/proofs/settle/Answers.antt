@@ -4,20 +4,8 @@
 use mathlib.Core.Path.{◌≡◌}
 use native.Mathlib.Omega.{arith}
 use Rattle.rules.specs.Places.{sum}
-use Rattle.remains.specs.RemainLaws.{entries, low_sum, settling_none, settling_more, settling_all, passed_sum}
+use Rattle.remains.specs.RemainLaws.{entries, low_sum, settling_more, settling_all, passed_sum}
 use Rattle.remains.proofs.settle.Goals as goal
-
-pub total-all-requires : goal.total-all-requires
-total-all-requires c = c.requires.1
-
-pub loop-all-init : goal.loop-all-init
-loop-all-init c = let s = c in (c.total-all.ensures, settling_none _ _ _ _ s.requires.0 s.requires.1)
-
-pub pass-requires : goal.pass-requires
-pass-requires c = let s = c.loop-all.invariant.1 in (s.long, s.low)
-
-pub total-more-requires : goal.total-more-requires
-total-more-requires c = c.pass.ensures.low
 
 pub loop-all-smaller : goal.loop-all-smaller
 loop-all-smaller c =
@@ -33,7 +21,6 @@ loop-all-preserved c =
 
 pub returns : goal.returns
 returns c =
-    let p = c in
-    let i = p.loop-all in
-    let same : sum (entries p.pass.new.row) 32 ≡ sum (entries i.next) 32 = omega (arith, c.total-more.ensures, i.invariant.0) in
-    settling_all i.invariant.1 p.pass.ensures same
+    let i = c.loop-all in
+    let same : sum (entries c.pass.new.row) 32 ≡ sum (entries i.next) 32 = omega (arith, c.total-more.ensures, i.invariant.0) in
+    settling_all i.invariant.1 c.pass.ensures same

@@ -1,6 +1,5 @@
 -- What waits at the first m modes has come.
 -- Assumes nothing.
-use Prim.Native.Nat.{◌-◌, ◌≤◌}
 use mathlib.Core.Path.{◌≡◌}
 use lib.ListN.{length}
 use Rattle.lives.specs.Left.{Low}
@@ -8,7 +7,4 @@ use Rattle.remains.specs.Remains.{Spread}
 use Rattle.remains.proofs.spread.Given as goal
 
 abbrev pub invariant-loop-m : goal.invariant-loop-m
-invariant-loop-m l = (l.m ≤ 32) × (length l.row ≡ 32) × Low l.row 32 × Spread l.ring l.slot l.follow l.q l.m l.row
-
-abbrev pub decreases-loop-m : goal.decreases-loop-m
-decreases-loop-m l = 32 - l.m
+invariant-loop-m l = (length l.row ≡ 32) × Low l.row 32 × Spread l.ring l.slot l.follow l.q l.m l.row

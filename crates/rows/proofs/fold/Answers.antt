@@ -8,7 +8,8 @@ use Rattle.rules.specs.Rows.{ticks, cycles}
 use Rattle.rows.proofs.fold.Goals as goal
 
 pub returns : goal.returns
-returns c = let a = c.args.t.0 in
+returns c =
+    let a = c.args.t.0 in
     let q = c.args.q.0 in
     let e : a % q ≡ a - a / q * q = omega (arith, div-add-mod' a q) in
     ap (λ (s : ℕ). record { start = ticks s; fst = cycles (a / q) }) e

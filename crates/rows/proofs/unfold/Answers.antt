@@ -1,7 +1,6 @@
 -- The product of two numbers of 16 bits and one more fits 32 bits.
 -- Assumes nothing.
 use Prim.Native.Nat.{◌≤◌}
-use mathlib.Core.Path.{refl}
 use native.Mathlib.Nat.{mul-le-mul}
 use native.Mathlib.Omega.{arith}
 use Rattle.rows.proofs.unfold.Goals as goal
@@ -19,6 +18,3 @@ overflow_add-result c =
     let s : c.args.r.start.0 ≤ 65535 = omega (arith, c.requires.start) in
     let f : c.args.r.fst.0 ≤ 65535 = omega (arith, c.requires.fst) in
     omega (arith, mul-le-mul f q, mul-le-mul s q)
-
-pub returns : goal.returns
-returns c = refl

@@ -1,40 +1,23 @@
 -- `step` goes over the members of s from the lowest up: what follows those that it has passed, and what follows those that are left, is the
 -- whole turn.
 -- Assumes nothing.
-use Prim.Native.Nat.{◌^◌}
-use mathlib.Core.Path.{◌≡◌, sym, ◌∙◌}
-use native.Mathlib.Omega.{arith}
+use Rattle.std.proofs.Common.{ap, sym, ◌∙◌}
 use lib.Bits.{or_zero_l, or_zero_r}
-use Rattle.theory.specs.Tests.{without}
-use Rattle.theory.proofs.Sets.{in_small}
-use Rattle.sets.specs.Members.{rest_less, walk_on, step_none}
+use Rattle.theory.specs.Tests.{step}
+use Rattle.sets.specs.Members.{walk_on, step_none}
+use Rattle.sets.specs.declared.Members as code
 use Rattle.sets.proofs.step.Goals as goal
 
-pub loop-left-init : goal.loop-left-init
-loop-left-init c = (omega arith, or_zero_l _)
+pub loop-m-init : goal.loop-m-init
+loop-m-init c = or_zero_l _ ∙ ap (λ (w : code.Members). step c.args.follow.now w.0) c.into_iter-m-iterator.ensures.into_iter_gives
 
-pub lowest-m-requires : goal.lowest-m-requires
-lowest-m-requires c = omega arith
-
-pub rest-left-requires : goal.rest-left-requires
-rest-left-requires c = in_small _ 32 _ (omega arith) c.lowest-m.ensures.member
-
-pub loop-left-smaller : goal.loop-left-smaller
-loop-left-smaller c = let m = c.lowest-m in
-    let left = c.loop-left.left in
-    let e : c.rest-left.result ≡ without left (2 ^ m.result) = c.rest-left.ensures in
-    rw e (rest_less left m.result m.ensures.member)
-
-pub loop-left-preserved : goal.loop-left-preserved
-loop-left-preserved c = let m = c.lowest-m in
-    let i = c.loop-left in
-    let F = c.args.follow.now in
-    let e : c.rest-left.result ≡ without i.left (2 ^ m.result) = c.rest-left.ensures in (
-      omega (arith, rest_less i.left m.result m.ensures.member),
-      walk_on i.left m.result m.ensures.member F i.all _ _ c.word-all.ensures e ∙ i.invariant.1,
-    )
+pub loop-m-preserved : goal.loop-m-preserved
+loop-m-preserved c =
+    let i = c.loop-m in
+    let (lowest, left) = c.in-Some.ensures.steps in
+    walk_on i.m-iterator.0 c.in-Some.m lowest.member c.args.follow.now i.all _ _ c.word-all.ensures left ∙ i.invariant
 
 pub returns : goal.returns
-returns c = let i = c.loop-left in
-    let e : i.left ≡ 0 = omega arith in
-    sym (or_zero_r _) ∙ rw (e, step_none) at i.invariant.1
+returns c =
+    let none = c.in-None.ensures.steps.0 in
+    sym (or_zero_r _) ∙ rw (none, step_none) at c.loop-m.invariant

@@ -12,26 +12,18 @@ pub loop-c-init : goal.loop-c-init
 loop-c-init c = let a = c.args in (omega arith, refl, places_none a.rs.now a.out.now)
 
 pub overflow_mul-c : goal.overflow_mul-c
-overflow_mul-c c = let s = c in omega (arith, s.requires.0)
+overflow_mul-c c = omega (arith, c.requires.0)
 
 pub offset_bounds-rs-c : goal.offset_bounds-rs-c
-offset_bounds-rs-c c = let s = c in omega (arith, s.requires.0)
+offset_bounds-rs-c c = omega (arith, c.requires.0)
 
 pub bounds-rs-c : goal.bounds-rs-c
-bounds-rs-c c = let s = c in omega (arith, s.requires.0)
+bounds-rs-c c = omega (arith, c.requires.0)
 
 pub put16-requires : goal.put16-requires
 put16-requires c =
-    let l = c.loop-c in
-    let s = c in
-    let long : length l.out ≡ length s.args.out.now = l.invariant.1 in
-    omega (arith, s.requires.2)
-
-pub overflow_add-c : goal.overflow_add-c
-overflow_add-c c = omega arith
-
-pub loop-c-smaller : goal.loop-c-smaller
-loop-c-smaller c = omega arith
+    let long : length c.loop-c.out ≡ length c.args.out.now = c.loop-c.invariant.1 in
+    omega (arith, c.requires.2)
 
 pub loop-c-preserved : goal.loop-c-preserved
 loop-c-preserved c =

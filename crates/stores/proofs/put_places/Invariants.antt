@@ -9,6 +9,3 @@ use Rattle.stores.proofs.put_places.Given as goal
 
 abbrev pub invariant-loop-c : goal.invariant-loop-c
 invariant-loop-c l = (l.c ≤ l.n) × (length l.out ≡ length l.initial.out) × (l.out ≡ stored l.initial.out 0 (places_bytes (take l.c l.rs)))
-
-abbrev pub decreases-loop-c : goal.decreases-loop-c
-decreases-loop-c l = l.n - l.c

@@ -1,11 +1,8 @@
 -- All from q up to x are marked.
 -- Assumes nothing.
-use Prim.Native.Nat.{ℕ, ◌-◌, ◌<◌, ◌≤◌}
+use Prim.Native.Nat.{ℕ, ◌<◌, ◌≤◌}
 use Rattle.marks.specs.Marks.{Marked}
 use Rattle.sweeps.proofs.first_unmarked.Given as goal
 
 abbrev pub invariant-loop-x : goal.invariant-loop-x
-invariant-loop-x l = (l.q ≤ l.x) × (l.x ≤ l.len) × ((y : ℕ) → l.q ≤ y → y < l.x → Marked l.wrong y)
-
-abbrev pub decreases-loop-x : goal.decreases-loop-x
-decreases-loop-x l = l.len - l.x
+invariant-loop-x l = (y : ℕ) → l.q ≤ y → y < l.x → Marked l.wrong y

@@ -1,21 +1,20 @@
 -- A margin is left with the caller; a refusal is told by its figures, and the place for the margin stays.
 -- Assumes nothing.
-use mathlib.Core.Path.{sym, ap, ◌∙◌}
+use Rattle.std.proofs.Common.{sym, ap, ◌∙◌, ℤ, Result, rules}
 use mir.Syntax.{w32}
 use mir.Facts.{to_z-of_z}
-use Rattle.margins.specs.declared.Measured.{Measured}
-use Rattle.margins.specs.Margins.{measured_of}
+use Rattle.fields.specs.declared.Refusal.{Refusal}
+use Rattle.fields.specs.Verdicts.{answered}
 use Rattle.telling.specs.Telling.{ended_with}
 use Rattle.telling.specs.TellingLaws.{refusal_told, margin_told, margin_kept}
-use borrow.Author.Rules.{rules}
 use Rattle.telling.proofs.measured_told.Goals as goal
 
-pub returns-in-Margin : goal.returns-in-Margin
-returns-in-Margin c =
+pub returns-in-Ok : goal.returns-in-Ok
+returns-in-Ok c =
     let before = c.args.margin.now in
-    margin_told c.in-Margin.z before c.numbered.ensures (to_z-of_z {w = w32} (search rules)) ∙ ap (λ (x : Measured). ended_with (measured_of x) before) (sym c.in-Margin.is)
+    margin_told c.in-Ok.z before c.numbered.ensures (to_z-of_z {w = w32} (search rules)) ∙ ap (λ (x : Result ℤ Refusal). ended_with (answered x) before) (sym c.in-Ok.is)
 
-pub returns-in-Denied : goal.returns-in-Denied
-returns-in-Denied c =
+pub returns-in-Err : goal.returns-in-Err
+returns-in-Err c =
     let before = c.args.margin.now in
-    margin_kept c.in-Denied.r before (refusal_told c.in-Denied.r c.figures_of.ensures) ∙ ap (λ (x : Measured). ended_with (measured_of x) before) (sym c.in-Denied.is)
+    margin_kept c.in-Err.r before (refusal_told c.in-Err.r c.from.ensures) ∙ ap (λ (x : Result ℤ Refusal). ended_with (answered x) before) (sym c.in-Err.is)

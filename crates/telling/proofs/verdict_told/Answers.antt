@@ -1,11 +1,14 @@
 -- An accepted verdict is told as 0, 0, 0, and a refusal by its figures.
 -- Assumes nothing.
-use mathlib.Core.Path.{◌∙◌}
-use Rattle.telling.specs.TellingLaws.{refusal_told}
+use Rattle.std.proofs.Common.{◌∙◌}
+use Rattle.rules.specs.Verdicts.{onwards}
+use Rattle.telling.specs.Telling.{unwritten}
+use Rattle.telling.specs.TellingLaws.{refusal_told, refusal_kept}
 use Rattle.telling.proofs.verdict_told.Goals as goal
 
-pub returns-in-Accepted : goal.returns-in-Accepted
-returns-in-Accepted c = c.numbered.ensures ∙ rw c.in-Accepted.is
+pub returns-in-Ok : goal.returns-in-Ok
+unfolding unwritten onwards
+returns-in-Ok c = c.numbered.ensures ∙ rw c.in-Ok.is
 
-pub returns-in-Refused : goal.returns-in-Refused
-returns-in-Refused c = refusal_told c.in-Refused.r c.figures_of.ensures ∙ rw c.in-Refused.is
+pub returns-in-Err : goal.returns-in-Err
+returns-in-Err c = refusal_told c.in-Err.r c.from.ensures ∙ refusal_kept c.in-Err.r ∙ rw c.in-Err.is

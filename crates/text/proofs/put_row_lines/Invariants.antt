@@ -1,8 +1,6 @@
 -- The lines of the first i operations are put, and nothing else has changed.
 -- Assumes nothing.
-use Prim.Native.Nat.{◌+◌, ◌-◌, ◌*◌, ◌≤◌}
-use mathlib.Core.Path.{◌≡◌}
-use lib.ListN.{length, take}
+use Rattle.std.proofs.Common.{◌+◌, ◌*◌, ◌≤◌, take}
 use Rattle.rules.specs.Rows.{reply_of}
 use Rattle.rules.specs.Text.{row_lines}
 use Rattle.table.specs.Tables.{table_of}
@@ -12,9 +10,4 @@ use Rattle.text.proofs.put_row_lines.Given as goal
 abbrev pub invariant-loop-i : goal.invariant-loop-i
 invariant-loop-i l =
     Puts l.initial.out l.out l.at l.end (row_lines 0 (take l.i (reply_of (table_of l.t) l.q.0).rows))
-    × (l.i ≤ l.t.count)
-    × (length l.out ≡ length l.initial.out)
     × (l.end ≤ l.at + 24 * l.i)
-
-abbrev pub decreases-loop-i : goal.decreases-loop-i
-decreases-loop-i l = l.t.count - l.i

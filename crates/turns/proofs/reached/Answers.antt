@@ -14,9 +14,6 @@ use Rattle.turns.proofs.reached.Goals as goal
 pub loop-all-init : goal.loop-all-init
 loop-all-init c = (omega arith, growing_first _ _)
 
-pub step-requires : goal.step-requires
-step-requires c = omega arith
-
 pub loop-all-smaller : goal.loop-all-smaller
 loop-all-smaller c = let all = c.loop-all.all in
     let more = c.step.result in

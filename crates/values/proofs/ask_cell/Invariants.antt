@@ -1,13 +1,10 @@
 -- The bound is raised by what the writers that were visited write into the cell.
 -- Assumes nothing.
-use Prim.Native.Nat.{◌<◌, ◌≤◌}
+use Prim.Native.Nat.{◌≤◌}
 use Rattle.arrivals.specs.EachLaws.{Raising}
 use Rattle.values.specs.Bounds.{WriterFine}
 use Rattle.values.proofs.ask_cell.Given as goal
 
-abbrev pub invariant-loop-left : goal.invariant-loop-left
-invariant-loop-left l =
-    (l.writers < 4294967296) × (1 ≤ l.most) × (l.most ≤ 1000) × Raising (WriterFine l.follow l.cols l.reached l.writers l.readers) l.bound l.writers l.left l.most
-
-abbrev pub decreases-loop-left : goal.decreases-loop-left
-decreases-loop-left l = l.left
+abbrev pub invariant-loop-m : goal.invariant-loop-m
+invariant-loop-m l =
+    (1 ≤ l.most) × (l.most ≤ 1000) × Raising (WriterFine l.follow l.cols l.reached l.writers l.readers) l.bound l.writers l.m-iterator.0 l.most

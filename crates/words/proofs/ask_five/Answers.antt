@@ -5,25 +5,27 @@ use Rattle.rules.specs.Words.{asks}
 use Rattle.words.proofs.Others.{five_other, no_number_lem}
 use Rattle.words.proofs.ask_five.Goals as goal
 
+pub returns-in-Margin-Number-Number-Number-Number : goal.returns-in-Margin-Number-Number-Number-Number
+unfolding asks
+returns-in-Margin-Number-Number-Number-Number c =
+    let m = c.in-Margin-Number-Number-Number-Number in rw (m.is-0, m.is-1, m.is-2, m.is-3, m.is-4)
+
 pub returns-in_default : goal.returns-in_default
-returns-in_default c = sym (five_other c.args.a c.in_default.not-Margin _ _ _ _)
-
-pub returns-in_default-b : goal.returns-in_default-b
 unfolding asks
-returns-in_default-b c = rw c.in-Margin.is (sym (no_number_lem c.args.b c.in_default-b.not-Number _ _))
+returns-in_default c =
+    let m = c.in_default in rw (m.is-0, m.is-1, m.is-2, m.is-3) (sym (no_number_lem c.args.e m.not-Number-4 _ _))
 
-pub returns-in_default-c : goal.returns-in_default-c
+pub returns-in_default-2 : goal.returns-in_default-2
 unfolding asks
-returns-in_default-c c = rw (c.in-Margin.is, c.in-Number.is) (sym (no_number_lem c.args.c c.in_default-c.not-Number _ _))
+returns-in_default-2 c = let m = c.in_default in rw (m.is-0, m.is-1, m.is-2) (sym (no_number_lem c.args.d m.not-Number-3 _ _))
 
-pub returns-in_default-d : goal.returns-in_default-d
+pub returns-in_default-3 : goal.returns-in_default-3
 unfolding asks
-returns-in_default-d c = rw (c.in-Margin.is, c.in-Number.is, c.in-Number-c.is) (sym (no_number_lem c.args.d c.in_default-d.not-Number _ _))
+returns-in_default-3 c = let m = c.in_default in rw (m.is-0, m.is-1) (sym (no_number_lem c.args.c m.not-Number-2 _ _))
 
-pub returns-in_default-e : goal.returns-in_default-e
+pub returns-in_default-4 : goal.returns-in_default-4
 unfolding asks
-returns-in_default-e c = rw (c.in-Margin.is, c.in-Number.is, c.in-Number-c.is, c.in-Number-d.is) (sym (no_number_lem c.args.e c.in_default-e.not-Number _ _))
+returns-in_default-4 c = rw c.in_default.is-0 (sym (no_number_lem c.args.b c.in_default.not-Number-1 _ _))
 
-pub returns : goal.returns
-unfolding asks
-returns c = rw (c.in-Margin.is, c.in-Number.is, c.in-Number-c.is, c.in-Number-d.is, c.in-Number-e.is)
+pub returns-in_default-5 : goal.returns-in_default-5
+returns-in_default-5 c = sym (five_other c.args.a c.in_default.not-Margin-0 _ _ _ _)

@@ -1,33 +1,16 @@
--- The first i bytes are digits, so all are where the rest is.
+-- It is not empty, and each byte is a digit.
 -- Assumes nothing.
-use mathlib.Core.Path.{sym, ◌∙◌}
-use native.Mathlib.Omega.{arith}
-use Rattle.words.specs.WordLaws.{number_none, number_some, digits_end, digits_stop, digits_turn}
+use Rattle.std.proofs.Common.{sym, rules, tests}
+use Rattle.std.specs.Char.{is_ascii_digit}
+use Rattle.std.proofs.lemmas.Iterator.{YieldsList-from_slice}
+use Rattle.std.proofs.lemmas.Iterator.Search.{all_from_yields_List}
+use Rattle.words.specs.WordLaws.{number_all}
 use Rattle.words.proofs.is_number.Goals as goal
 
-pub returns-then-n-eq0 : goal.returns-then-n-eq0
-returns-then-n-eq0 c = number_none _ c.if-n-eq0.true
+pub returns-then-not-is_empty : goal.returns-then-not-is_empty
+returns-then-not-is_empty c =
+    simp (number_all c.args.w.now, sym c.if-not-is_empty.ensures)
+    (all_from_yields_List is_ascii_digit _ _ c.all.result c.all.ensures.ran (YieldsList-from_slice c.args.w.now cc) (λ x b q k. search (rules, tests)))
 
-pub loop-i-init : goal.loop-i-init
-loop-i-init c = (omega arith, number_some _ c.if-n-eq0.false)
-
-pub bounds-w-i : goal.bounds-w-i
-bounds-w-i c = omega arith
-
-pub returns-then-not-is_digit : goal.returns-then-not-is_digit
-returns-then-not-is_digit c = let l = c.loop-i in
-    sym (l.invariant.1 ∙ digits_stop _ l.i (omega arith) (sym c.is_digit.ensures ∙ c.if-not-is_digit.true))
-
-pub overflow_add-i : goal.overflow_add-i
-overflow_add-i c = omega arith
-
-pub loop-i-smaller : goal.loop-i-smaller
-loop-i-smaller c = omega arith
-
-pub loop-i-preserved : goal.loop-i-preserved
-loop-i-preserved c = let l = c.loop-i in
-    (omega arith, l.invariant.1 ∙ digits_turn _ l.i (omega arith) (sym c.is_digit.ensures ∙ c.if-not-is_digit.false))
-
-pub returns : goal.returns
-returns c = let l = c.loop-i in
-    sym (l.invariant.1 ∙ digits_end _ l.i (omega arith))
+pub returns-else-not-is_empty : goal.returns-else-not-is_empty
+returns-else-not-is_empty c = simp (number_all, c.if-not-is_empty.false, sym c.if-not-is_empty.ensures)

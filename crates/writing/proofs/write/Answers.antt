@@ -1,21 +1,19 @@
 -- The numbers are judged first; what is accepted is written, and a refusal is the answer as it is.
 -- Assumes nothing.
+use Rattle.std.proofs.lemmas.Result.{err_from_is_err_and}
 use Rattle.table.specs.JudgedLaws.{judged_accepted, judged_refused}
+use Rattle.handed.specs.Handed.{numbers_of}
 use Rattle.writing.specs.WrittenLaws.{took_writable, took_written, refused_written}
 use Rattle.writing.proofs.write.Goals as goal
 
+pub returns-in_err-t : goal.returns-in_err-t
+returns-in_err-t c =
+    let q = c.in_err-t.field-0.0 in
+    let p = err_from_is_err_and c.from_residual.result c.from_residual.ensures.1 in
+    rw (p.1, p.2) (refused_written (numbers_of c.args.n) q _ (judged_refused _ q c.in_err-t.ensures))
+
 pub write_table-requires : goal.write_table-requires
-write_table-requires c =
-    let e = c in
-    took_writable _ (judged_accepted _ _ e.judge-judged.ensures e.in-Accepted.is)
+write_table-requires c = took_writable (numbers_of c.args.n) (judged_accepted _ _ c.in_ok-t.ensures)
 
-pub returns-in-Refused : goal.returns-in-Refused
-returns-in-Refused c =
-    let v = c in
-    refused_written _ v.in-Refused.q _ (judged_refused _ _ _ v.judge-judged.ensures v.in-Refused.is)
-
-pub returns-in-Accepted : goal.returns-in-Accepted
-returns-in-Accepted c =
-    let w = c in
-    let e = w in
-    took_written _ (judged_accepted _ _ e.judge-judged.ensures e.in-Accepted.is) _ w.write_table.ensures
+pub returns : goal.returns
+returns c = took_written (numbers_of c.args.n) (judged_accepted _ _ c.in_ok-t.ensures) _ c.write_table.ensures

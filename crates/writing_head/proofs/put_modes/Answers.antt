@@ -9,11 +9,7 @@ use Rattle.writing_head.proofs.put_modes.Goals as goal
 
 pub returns : goal.returns
 returns c =
-    let x3 = c in
-    let x2 = x3 in
-    let x1 = x2 in
-    let s = x1 in
-    let t = s.args.t in
+    let t = c.args.t in
     let long : length t.follow ≡ 32 = search rules in
-    let e2 = stored_then _ _ _ _ x1.put_header.ensures refl x2.put32.ensures in
-    rw (modes_size t long s.requires.0) (stored_then _ _ _ _ e2 refl x3.put_words.ensures)
+    let e2 = stored_then _ _ _ _ c.put_header.ensures refl c.put32.ensures in
+    rw (modes_size t long c.requires.0) (stored_then _ _ _ _ e2 refl c.put_words.ensures)

@@ -6,12 +6,7 @@ use Rattle.writing_ops.proofs.put_held.Goals as goal
 
 pub returns : goal.returns
 returns c =
-    let x5 = c in
-    let x4 = x5 in
-    let x3 = x4 in
-    let x2 = x3 in
-    let x1 = x2 in
-    let e2 = stored_then _ _ _ _ x1.put_header.ensures refl x2.put16.ensures in
-    let e3 = stored_then _ _ _ _ (e2) refl x3.put16-2.ensures in
-    let e4 = stored_then _ _ _ _ (e3) refl x4.put16-3.ensures in
-    stored_then _ _ _ _ e4 refl x5.put_used.ensures
+    let e2 = stored_then _ _ _ _ c.put_header.ensures refl c.put16.ensures in
+    let e3 = stored_then _ _ _ _ e2 refl c.put16-2.ensures in
+    let e4 = stored_then _ _ _ _ e3 refl c.put16-3.ensures in
+    stored_then _ _ _ _ e4 refl c.put_used.ensures

@@ -1,6 +1,6 @@
 -- The fields of the operations so far are stored, one behind the other, and the place is behind them.
 -- Assumes nothing.
-use Prim.Native.Nat.{◌+◌, ◌-◌, ◌≤◌}
+use Prim.Native.Nat.{◌+◌}
 use mathlib.Core.Path.{◌≡◌}
 use lib.ListN.{length, take}
 use Rattle.rules.specs.Bytes.{joined}
@@ -12,7 +12,4 @@ use Rattle.writing_ops.proofs.put_ops.Given as goal
 
 abbrev pub invariant-loop-i : goal.invariant-loop-i
 invariant-loop-i l =
-    (l.i ≤ l.count) × (length l.out ≡ length l.initial.out) × (l.at ≡ ops_place l.t.modes + size_to l.t.ops l.i) × (l.out ≡ stored l.initial.out (ops_place l.t.modes) (joined bytes_of_op (take l.i l.t.ops)))
-
-abbrev pub decreases-loop-i : goal.decreases-loop-i
-decreases-loop-i l = l.count - l.i
+    (length l.out ≡ length l.initial.out) × (l.at ≡ ops_place l.t.modes + size_to l.t.ops l.i) × (l.out ≡ stored l.initial.out (ops_place l.t.modes) (joined bytes_of_op (take l.i l.t.ops)))

@@ -6,10 +6,6 @@ use Rattle.writing_ops.proofs.put_plain.Goals as goal
 
 pub returns : goal.returns
 returns c =
-    let x4 = c in
-    let x3 = x4 in
-    let x2 = x3 in
-    let x1 = x2 in
-    let e2 = stored_then _ _ _ _ x1.put_header.ensures refl x2.put16.ensures in
-    let e3 = stored_then _ _ _ _ (e2) refl x3.put16-2.ensures in
-    stored_then _ _ _ _ e3 refl x4.put_used.ensures
+    let e2 = stored_then _ _ _ _ c.put_header.ensures refl c.put16.ensures in
+    let e3 = stored_then _ _ _ _ e2 refl c.put16-2.ensures in
+    stored_then _ _ _ _ e3 refl c.put_used.ensures

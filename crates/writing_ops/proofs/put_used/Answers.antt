@@ -6,10 +6,6 @@ use Rattle.writing_ops.proofs.put_used.Goals as goal
 
 pub returns : goal.returns
 returns c =
-    let x4 = c in
-    let x3 = x4 in
-    let x2 = x3 in
-    let x1 = x2 in
-    let e2 = stored_then _ _ _ _ x1.put16.ensures refl x2.put32.ensures in
-    let e3 = stored_then _ _ _ _ (e2) refl x3.put32-2.ensures in
-    stored_then _ _ _ _ e3 refl x4.put32-3.ensures
+    let e2 = stored_then _ _ _ _ c.put16.ensures refl c.put32.ensures in
+    let e3 = stored_then _ _ _ _ e2 refl c.put32-2.ensures in
+    stored_then _ _ _ _ e3 refl c.put32-3.ensures
