@@ -88,7 +88,7 @@ extern "C" {
 
 /*
  * So many bytes of stack below the caller serve each function. That is measured, with this library as it is built for
- * x86-64, and not proved: its own functions take up to 12,128, the rest is for the C library's memcpy and memset and for
+ * x86-64, and not proved: its own functions take up to 12,016, the rest is for the C library's memcpy and memset and for
  * a loader that binds them at the first call. Signal handlers come on top.
  */
 #define TREVOZHIL_STACK 16384
