@@ -6,6 +6,7 @@
 ghost use Rattle.std.specs.Prelude.{◌≤◌, length, IfOk};
 
 use fields::Refusal;
+use std::fmt::Display;
 use std::{fs, io};
 
 // The tables of data/, in the order in which they are printed.
@@ -67,9 +68,11 @@ const TABLES: [&str; 46] = [
     "button-rinse",
 ];
 
-fn line(rt: &HostRuntime, text: &[u8]) {
-    printing::print(rt, text);
-    printing::print(rt, b"\n");
+// Prints a line, or says why it cannot.
+fn line(rt: &HostRuntime, text: impl Display + Drop) {
+    if let Err(error) = println!(rt; "{text}") {
+        printing::fail(rt, "standard output", error);
+    }
 }
 
 // A file's bytes, at most as many as the buffer has.
@@ -80,43 +83,37 @@ fn read(rt: &HostRuntime, path: &str, buf: &mut [u8]) -> io::Result<usize>
     printing::read_full(&mut file, buf)
 }
 
-// A file's name, and what is printed for its bytes.
-fn one(rt: &HostRuntime, path: &str) {
-    line(rt, path.as_bytes());
+// Does `work` on a file's bytes, or says why they cannot be read.
+fn with_bytes<F: FnOnce(&[u8])>(rt: &HostRuntime, path: &str, work: F)
+    requires { F.IsAlwaysCallable work }
+{
     let mut input = [0u8; 4096];
     match read(rt, path, &mut input) {
-        Ok(n) => printing::print_fold(rt, &input[..n]),
+        Ok(n) => work(&input[..n]),
         Err(error) => printing::fail(rt, path, error),
     }
+}
+
+// A file's name, and what is printed for its bytes.
+fn one(rt: &HostRuntime, path: &str) {
+    line(rt, path);
+    with_bytes(rt, path, |s| printing::print_fold(rt, s));
 }
 
 // ---- K1 into few bytes
 
 fn say(rt: &HostRuntime, answer: Result<usize, Refusal>) {
     match answer {
-        Ok(n) => {
-            if let Err(error) = println!(rt; "wrote {n}") {
-                printing::fail(rt, "standard output", error);
-            }
-        }
+        Ok(n) => line(rt, format_args!("wrote {n}")),
         Err(r) => printing::print_refusal(rt, r),
     }
 }
 
 fn into_few(rt: &HostRuntime, s: &[u8]) {
-    let mut eleven = [0u8; 11];
-    line(rt, b"k01 into 11 bytes");
-    say(rt, planner::plan(s, &mut eleven));
-    let mut twelve = [0u8; 12];
-    line(rt, b"k01 into 12 bytes");
-    say(rt, planner::plan(s, &mut twelve));
-}
-
-fn k1_into_few(rt: &HostRuntime) {
-    let mut input = [0u8; 4096];
-    match read(rt, "k01", &mut input) {
-        Ok(n) => into_few(rt, &input[..n]),
-        Err(error) => printing::fail(rt, "k01", error),
+    let mut few = [0u8; 12];
+    for n in 11..=12 {
+        line(rt, format_args!("k01 into {n} bytes"));
+        say(rt, planner::plan(s, &mut few[..n]));
     }
 }
 
@@ -124,5 +121,5 @@ fn main(rt: HostRuntime) {
     for name in TABLES {
         one(&rt, name);
     }
-    k1_into_few(&rt);
+    with_bytes(&rt, "k01", |s| into_few(&rt, s));
 }

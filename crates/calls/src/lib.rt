@@ -12,6 +12,7 @@ use handed::Numbers;
 pub fn judge(s: &[u8], a: &mut u64, b: &mut u64) -> u32
     ensures { JudgeTells s.now (figures_of result a.new b.new) }
 {
+    // `.and(Ok(()))`, not `.map(|_| ())`: `and` gives an equation, on which the law `judged_told` stands, and `map` two cases.
     let verdict = reading::read(s).and(Ok(()));
     telling::tell(telling::verdict_told(verdict), a, b)
 }

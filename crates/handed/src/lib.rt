@@ -37,8 +37,8 @@ fn sets_wrong(modes: u32, first: u64, follow: &[u64]) -> Option<usize>
     if !sets::is_set_of(modes, first) {
         return Some(3);
     }
-    for m in 0..follow.len() {
-        if !sets::is_set_of(modes, follow[m]) {
+    for (m, word) in follow.iter().enumerate() {
+        if !sets::is_set_of(modes, *word) {
             return Some(7 + 4 * m);
         }
     }

@@ -36,6 +36,7 @@ fn wide_at(ops: &[u64], holds: &[u64], k: usize) -> Wide
 }
 
 // The operation behind `count` others, which would be written at `place`, in a table of this length and these counts, when it passes its tests.
+// (`reading_ops::next_op` asks other tests, of bytes.)
 fn next_op(
     counts: Counts,
     ops: &[u64],
@@ -61,6 +62,7 @@ fn next_op(
 }
 
 // All the operations, judged one after the other and put behind what stands before them. Each is stored where it belongs: the table is not copied for it.
+// It ends where neither list has a number left, and a field has its own width: nothing here is stepped over evenly.
 pub fn take_ops(head: Table, ops: &[u64], holds: &[u64]) -> Result<Table, Refusal>
     requires { Bare head × SmallCounts head.boards head.cells head.modes }
     ensures { JudgedAs (handed_ops (table_of head) ops.now holds.now) result }

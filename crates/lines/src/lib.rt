@@ -71,6 +71,8 @@ fn put_line(
     put_bytes(out, third, b"\n")
 }
 
+// The next two name a line and its bound.
+
 // "op i start s fst f", 24 bytes at most
 pub fn put_row_line(out: &mut [u8], at: usize, i: usize, r: Row) -> usize
     requires { (at + 24 ≤ length out.old) × (i < 100) × (r.start.0 < 1000) × (r.fst.0 < 1000) }

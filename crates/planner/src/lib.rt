@@ -1,4 +1,5 @@
-// The planner: the public functions. Each promise is a definition of `rules` about the answer, told in document 01's numbers.
+// The planner: the public functions, one call each, with the promise that README and docs/PROMISES.md offer. Each promise is a definition of `rules`
+// about the answer, told in document 01's numbers.
 #![tactic(auto)]
 
 ghost use Rattle.std.specs.Prelude.{◌≡◌, map};

@@ -43,6 +43,8 @@ pub fn print(rt: &HostRuntime, bytes: &[u8]) {
 
 // ---- what is printed for a question, and for a refusal
 
+// `emit_said`, `emit_list` and `emit_line` differ in what they require: docs/PROMISES.md names them as what a wrong text is refused by.
+
 // Prints on standard output what is the text for a question, whole, and belongs there.
 fn emit_said(rt: &HostRuntime, q: Question, s: &[u8], text: &[u8])
     requires { IsSaid (asked_by q) s.now text.now × (printed (asked_by q) text.now ≡ record { out = text.now; err = [] }) }

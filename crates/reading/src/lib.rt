@@ -27,7 +27,7 @@ fn ops_done(s: &[u8], at: usize, first: usize) -> bool
 }
 
 // The operations up to where they end, behind a head that is judged: from field to field by each one's own length. Each is stored where it belongs: the
-// table is not copied for it.
+// table is not copied for it. Each field has its own length, so the place is moved by that, and no step over the bytes is.
 fn read_ops(s: &[u8]) -> Result<Table, Refusal>
     requires { head_test s.now ≡ accepted tt }
     ensures { JudgedAs (ops_verdict s.now) result }

@@ -63,7 +63,7 @@ fn pass(row: &mut [u32; 32], follow: &[u32; 32], idle: u32, q: u32)
     }
 }
 
-// The same until nothing is new.
+// The same until nothing is new: there is no number to count.
 fn settle(row: [u32; 32], follow: &[u32; 32], idle: u32, q: u32) -> [u32; 32]
     requires { (length row ≡ 32) × Low row 32 }
     ensures { Settled follow.now idle q row result }

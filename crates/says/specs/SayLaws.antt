@@ -1,14 +1,19 @@
--- A margin's sign and its digits, and how long its line and that of a gap are.
+-- A margin's sign and its digits, how long its line and that of a gap are, and what is said of an answer.
 -- Assumes nothing.
-use Rattle.std.specs.Prelude.{ℕ, ◌+◌, ◌^◌, ◌<◌, ◌≤◌, ◌≡◌, refl, Bool, true, false, List, ◌∷◌, ◌++◌, T, ℤ, pos, negsuc, nat_abs, ◌-ℤ◌, length}
+use Rattle.std.specs.Prelude.{ℕ, ◌+◌, ◌^◌, ◌<◌, ◌≤◌, ◌≡◌, refl, Bool, true, false, List, ◌∷◌, ◌++◌, T, ℤ, pos, negsuc, nat_abs, ◌-ℤ◌, length, Result, Ok, Err, MatchResult}
 use Rattle.std.proofs.Common.{ap, ◌∙◌, true≢false, arith, ltb-true, length-append, to_z-of_z, SFits, to_z, of_z}
 use Rattle.std.specs.Int.Signed.{lt_z, non_neg, nat_abs-le}
 use Rattle.std.proofs.Math.Facts.{sfits_widen}
 use Rattle.std.specs.Int.{w32, w64}
-use Rattle.rules.specs.Text.{decimal, newline, margin_word, signed, margin_line, gap_word, gap_line}
+use Rattle.rules.specs.Text.{decimal, newline, margin_word, signed, margin_line, gap_word, gap_line, told, text_of}
 use Rattle.theory.proofs.Text.{decimal_length}
+use Rattle.fields.specs.declared.Refusal.{Refusal}
+use Rattle.fields.specs.Verdicts.{refusal_of, answered}
 use Rattle.lines.specs.Lines.{Puts}
 use Rattle.lines.specs.LineLaws.{puts_then}
+use Rattle.text.specs.declared.Text.{Text}
+use Rattle.text.specs.Texts.{text_in}
+use Rattle.text.specs.TextLaws.{told_accepted, told_refusal}
 
 -- ---- the sign, by the test that the code makes
 
@@ -80,3 +85,9 @@ gap_length g = omega (arith, simp length-append at (ap length (gap_row g)))
 pub gap_put : (g : ℕ) (out : List ℕ) {mid end : List ℕ} {k n : ℕ} → Puts out mid 0 k (gap_word ++ decimal g) → Puts mid end k n newline
     → Puts out end 0 n (gap_line g)
 gap_put g out a b = rw (gap_row g) (puts_then out 0 (gap_word ++ decimal g) newline a b)
+
+-- ---- what is said of an answer, from what is said in each of its two cases
+pub told_cases : {A : Type 0} (line : A → List ℕ) (x : Result A Refusal) {t : Text}
+    → MatchResult x (λ v. t ≡ text_in (line v)) (λ r. t ≡ text_in (text_of (refusal_of r))) → t ≡ text_in (told line (answered x))
+told_cases line (Ok v) e = e ∙ ap text_in (told_accepted line v refl)
+told_cases line (Err r) e = e ∙ ap text_in (told_refusal line r refl)

@@ -35,10 +35,7 @@ fn yes_no_text(said: bool) -> Text
 pub fn truth_text(x: Result<bool, Refusal>) -> Text
     ensures { result ≡ text_in (told yes_no_line (answered x)) }
 {
-    match x {
-        Ok(said) => yes_no_text(said),
-        Err(r) => text::refusal_text(r),
-    }
+    x.map_or_else(text::refusal_text, yes_no_text)
 }
 
 // A margin without its sign.
@@ -74,13 +71,10 @@ fn margin_text(m: i32) -> Text
 pub fn measured_text(x: Result<i32, Refusal>) -> Text
     ensures { result ≡ text_in (told margin_line (answered x)) }
 {
-    match x {
-        Ok(m) => margin_text(m),
-        Err(r) => text::refusal_text(r),
-    }
+    x.map_or_else(text::refusal_text, margin_text)
 }
 
-// The line of a gap.
+// The line of a gap. It ends as `margin_text` does: one function over a closure that writes the words is no plainer.
 fn gap_line(g: u32) -> Text
     ensures { result ≡ text_in (gap_line g) }
 {
@@ -94,10 +88,7 @@ fn gap_line(g: u32) -> Text
 pub fn gap_text(x: Result<u32, Refusal>) -> Text
     ensures { result ≡ text_in (told gap_line (answered x)) }
 {
-    match x {
-        Ok(g) => gap_line(g),
-        Err(r) => text::refusal_text(r),
-    }
+    x.map_or_else(text::refusal_text, gap_line)
 }
 
 // The list of what can be asked.

@@ -41,6 +41,7 @@ fn rows_test(s: &[u8], q: Ticks) -> Result<(), Refusal>
     requires { q.0 < 65536 }
     ensures { answered result ≡ heard (rows_from (ticks_of q) s.now 32 5) }
 {
+    // Counted down: over `step_by(7).enumerate()` an invariant is told the state of the two iterators, and neither the place nor the count by a name.
     let mut left: usize = 32;
     for at in (5..s.len()).step_by(7) {
         row_test(s, at, left, q)?;

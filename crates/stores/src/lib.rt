@@ -17,8 +17,8 @@ fn put_places(out: &mut [u8], rs: &[u32; 32], n: usize)
     requires { (n ≤ 32) × (length rs.now ≡ 32) × (2 * n ≤ length out.old) }
     ensures { out.new ≡ stored out.old 0 (places_bytes (take n rs.now)) }
 {
-    for c in 0..n {
-        puts::put16(out, 2 * c, rs[c]);
+    for (c, r) in rs[..n].iter().enumerate() {
+        puts::put16(out, 2 * c, *r);
     }
 }
 

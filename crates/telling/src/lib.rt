@@ -1,7 +1,7 @@
 // What a C caller is told of the code's answers.
 #![tactic(auto)]
 
-ghost use Rattle.std.specs.Prelude.{◌≡◌, cond};
+ghost use Rattle.std.specs.Prelude.{◌≡◌};
 ghost use Rattle.fields.specs.Verdicts.{answered};
 ghost use Rattle.figures.specs.Figures.{figures_of};
 ghost use Rattle.telling.specs.Telling.{told_of, unwritten, yes_of, ended, ended_with};
@@ -13,53 +13,38 @@ use figures::Figures;
 pub fn verdict_told(v: Result<(), Refusal>) -> Figures
     ensures { result ≡ told_of (unwritten (answered v)) }
 {
-    match v {
-        Ok(()) => figures::numbered(0, 0, 0),
-        Err(r) => Figures::from(r),
-    }
+    v.map_or_else(Figures::from, |()| figures::numbered(0, 0, 0))
 }
 
 // An answer with the number of bytes written.
 pub fn answer_told(x: Result<usize, Refusal>) -> Figures
     ensures { result ≡ told_of (answered x) }
 {
-    match x {
-        Ok(n) => figures::numbered(0, n, 0),
-        Err(r) => Figures::from(r),
-    }
+    x.map_or_else(Figures::from, |n| figures::numbered(0, n, 0))
 }
 
 // The period, or the gap.
 pub fn found_told(x: Result<u32, Refusal>) -> Figures
     ensures { result ≡ told_of (answered x) }
 {
-    match x {
-        Ok(q) => figures::numbered(0, q as usize, 0),
-        Err(r) => Figures::from(r),
-    }
+    x.map_or_else(Figures::from, |q| figures::numbered(0, q as usize, 0))
 }
 
-// 1 for yes and 0 for no.
-fn yes_told(yes: bool) -> Figures
-    ensures { result ≡ figures_of 0 (cond yes 1 0) 0 }
-{
-    figures::numbered(0, usize::from(yes), 0)
-}
-
-// The answer to a question with a yes or a no.
+// The answer to a question with a yes or a no: 1 for yes and 0 for no.
 pub fn truth_told(x: Result<bool, Refusal>) -> Figures
     ensures { result ≡ told_of (yes_of (answered x)) }
 {
-    match x {
-        Ok(yes) => yes_told(yes),
-        Err(r) => Figures::from(r),
-    }
+    x.map_or_else(
+        Figures::from,
+        |yes| figures::numbered(0, usize::from(yes), 0),
+    )
 }
 
 // The answer to a question about a margin; the margin is left with the caller.
 pub fn measured_told(x: Result<i32, Refusal>, margin: &mut i32) -> Figures
     ensures { ended result margin.new ≡ ended_with (answered x) margin.old }
 {
+    // `map_or_else` is no plainer where the value is also written to its place.
     match x {
         Ok(z) => {
             *margin = z;

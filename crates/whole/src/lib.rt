@@ -31,6 +31,7 @@ fn first_pair<F: Fn(Op, Op) -> bool>(t: Table, hit: F) -> Option<(usize, usize)>
     found
 }
 
+// What is left of the next two beside `first_pair` is which refusal they tell.
 // The first pair that clashes.
 fn first_clash(t: Table) -> Result<(), Refusal>
     requires { t.count ≤ 32 }

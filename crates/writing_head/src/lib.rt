@@ -28,6 +28,7 @@ fn put_words(out: &mut [u8], t: Table)
     requires { (t.modes ≤ 32) × (ops_place t.modes ≤ length out.old) }
     ensures { out.new ≡ stored out.old 18 (joined be32 (take t.modes t.follow)) }
 {
+    // By index: `&t.follow[..]` lends a field of a table that is had by value, and the frame grows by what the table takes.
     for i in 0..t.modes as usize {
         puts::put32(out, 18 + 4 * i, t.follow[i]);
     }

@@ -15,9 +15,8 @@ loop-i-init c = (refl, refl)
 
 pub loop-i-preserved : goal.loop-i-preserved
 loop-i-preserved c =
-    let a = c.args in
     let l = c.loop-i in
-    let long : length a.t.follow ≡ 32 = search rules in (
+    let long : length c.args.t.follow ≡ 32 = search rules in (
       ap length c.put32.ensures ∙ stored_length l.out _ _ ∙ l.invariant.0,
-      stored_turn be32 4 (λ x. refl) a.t.follow a.out.now 18 0 l.i (omega arith) l.invariant.1 refl c.put32.ensures,
+      stored_turn be32 4 (λ x. refl) c.args.t.follow c.args.out.now 18 0 l.i (omega arith) l.invariant.1 refl c.put32.ensures,
     )
