@@ -68,11 +68,12 @@ const TABLES: [&str; 46] = [
     "button-rinse",
 ];
 
-// Prints a line, or says why it cannot.
+// Prints a line, its text and then its end, or says of each why it cannot.
 fn line(rt: &HostRuntime, text: impl Display + Drop) {
-    if let Err(error) = println!(rt; "{text}") {
+    if let Err(error) = print!(rt; "{text}") {
         printing::fail(rt, "standard output", error);
     }
+    printing::print(rt, b"\n");
 }
 
 // A file's bytes, at most as many as the buffer has.
@@ -104,15 +105,18 @@ fn one(rt: &HostRuntime, path: &str) {
 
 fn say(rt: &HostRuntime, answer: Result<usize, Refusal>) {
     match answer {
-        Ok(n) => line(rt, format_args!("wrote {n}")),
+        Ok(n) => {
+            printing::print(rt, b"wrote ");
+            line(rt, n);
+        }
         Err(r) => printing::print_refusal(rt, r),
     }
 }
 
 fn into_few(rt: &HostRuntime, s: &[u8]) {
     let mut few = [0u8; 12];
-    for n in 11..=12 {
-        line(rt, format_args!("k01 into {n} bytes"));
+    for (n, what) in [(11, "k01 into 11 bytes"), (12, "k01 into 12 bytes")] {
+        line(rt, what);
         say(rt, planner::plan(s, &mut few[..n]));
     }
 }

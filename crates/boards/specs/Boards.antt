@@ -1,6 +1,6 @@
 -- Periods at which the boards are wrong, by the columns of a table, and how the sweep over the distances comes to the first that is not.
 -- Assumes nothing.
-use Rattle.std.specs.Prelude.{ℕ, ◌<◌, ◌≤◌, ◌≡◌, Bool, true, false, List, length, get_or}
+use Rattle.std.specs.Prelude.{ℕ, ◌<◌, ◌≤◌, ◌≡◌, true, false, List, length, get_or}
 use Rattle.std.specs.Int.Bits.{bit_and}
 use Rattle.rules.specs.Sets.{In, Share}
 use Rattle.rules.specs.Table.{Table, held_to}
@@ -39,7 +39,7 @@ Dropped cols n q later =
     → Meets (op_by cols i) (op_by cols j) m x → In j (get_or later i 0)
 
 -- sizes and bounds that hold all along
-pub record Sized (len q : ℕ) (later : List ℕ) (wrong : List Bool) : Type 0 where
+pub record Sized (len q : ℕ) (later : List ℕ) (wrong : List ℕ) : Type 0 where
   pub marks : length wrong ≡ 1000
   pub sets : length later ≡ 32
   pub low : 1 ≤ q
@@ -48,7 +48,7 @@ pub record Sized (len q : ℕ) (later : List ℕ) (wrong : List Bool) : Type 0 w
 
 -- What the sweep keeps, before distance n + 1. It began at b; q is the first period from b on that is not marked, and all before it are wrong.
 -- A mark says that the period is wrong, and no mark, from q on, that nothing is wrong there at the first n distances.
-pub record Swept (F : List ℕ) (cols : List Dated) (R len b n q : ℕ) (later : List ℕ) (wrong : List Bool) : Type 0 where
+pub record Swept (F : List ℕ) (cols : List Dated) (R len b n q : ℕ) (later : List ℕ) (wrong : List ℕ) : Type 0 where
   pub low : b ≤ q
   pub high : q ≤ len
   pub passed : (x : ℕ) → b ≤ x → x < q → Wrong F cols R x

@@ -1,6 +1,6 @@
 -- One distance after the other: what the sweep keeps, and what it has found when it ends.
 -- Assumes nothing.
-use Rattle.std.specs.Prelude.{ℕ, suc, ◌+◌, ◌*◌, ◌<◌, ◌≤◌, ◌≡◌, Bool, false, List, ◌⊎◌, get_or, replicate}
+use Rattle.std.specs.Prelude.{ℕ, suc, ◌+◌, ◌*◌, ◌<◌, ◌≤◌, ◌≡◌, List, ◌⊎◌, get_or, replicate}
 use Rattle.std.proofs.Common.{sym, subst, inl, inr, mul-le-mul, mul-le-mul_left, arith}
 use Rattle.std.proofs.Math.Decide.{dec_lt}
 use Rattle.std.specs.Int.Bits.{bit_and}
@@ -8,7 +8,6 @@ use Rattle.std.proofs.lemmas.List.{length-replicate, get_or-replicate}
 use Rattle.std.proofs.Math.ListN.{get_or-eq_default}
 use Rattle.rules.specs.Sets.{Share}
 use Rattle.theory.proofs.Order.{Cmp, cmp}
-use Rattle.theory.proofs.Says.{clash_bool}
 use Rattle.theory.proofs.Sets.{in_none}
 use Rattle.columns.specs.Columns.{op_by}
 use Rattle.columns.specs.declared.Dated.{Dated}
@@ -23,12 +22,12 @@ later_yet : (n m q x : ℕ) → n ≤ m → q ≤ x → suc n * q ≤ suc m * x
 later_yet n m q x h l = mul-le-mul {n₁ = suc n} {m₁ = q} {n₂ = suc m} {m₂ = x} (omega arith) l
 
 -- the same distance in other words
-pub swept_at : {F : List ℕ} {cols : List Dated} {later : List ℕ} {wrong : List Bool} {R len b n m q : ℕ} → n ≡ m → Swept F cols R len b n q later wrong → Swept F cols R len b m q later wrong
+pub swept_at : {F : List ℕ} {cols : List Dated} {later : List ℕ} {wrong : List ℕ} {R len b n m q : ℕ} → n ≡ m → Swept F cols R len b n q later wrong → Swept F cols R len b m q later wrong
 swept_at {F} {cols} {later} {wrong} {R} {len} {b} {n} {m} {q} e s = subst (λ (k : ℕ). Swept F cols R len b k q later wrong) e s
 
 module _ (F : List ℕ) (cols : List Dated) (R len b : ℕ) where
   -- ---- the beginning: nothing is marked yet
-  pub swept_first : (later : List ℕ) → b ≤ len → AllLater cols b 32 later → Swept F cols R len b 0 b later (replicate 1000 false)
+  pub swept_first : (later : List ℕ) → b ≤ len → AllLater cols b 32 later → Swept F cols R len b 0 b later (replicate 1000 0)
   swept_first later h sets =
       record {
         low = omega arith;
@@ -43,15 +42,15 @@ module _ (F : List ℕ) (cols : List Dated) (R len b : ℕ) where
             ((sets.each i a).exact j).1 (c, (board, near));
       }
     where
-      none : (x : ℕ) → Marked (replicate 1000 false) x → ⊥
-      none x m = clash_bool m (nothing x (dec_lt x 1000))
+      none : (x : ℕ) → Marked (replicate 1000 0) x → ⊥
+      none x m = omega (arith, m, nothing x (dec_lt x 1000))
         where
-          nothing : (y : ℕ) → Dec (y < 1000) → get_or (replicate 1000 false) y false ≡ false
-          nothing y (yes l) = get_or-replicate 1000 y false false l
-          nothing y (no l) = get_or-eq_default (replicate 1000 false) false {n = y} (omega (arith, length-replicate 1000 false))
+          nothing : (y : ℕ) → Dec (y < 1000) → get_or {A = ℕ} (replicate 1000 0) y 0 ≡ 0
+          nothing y (yes l) = get_or-replicate {A = ℕ} 1000 y 0 0 l
+          nothing y (no l) = get_or-eq_default {A = ℕ} (replicate 1000 0) 0 {n = y} (omega (arith, length-replicate {A = ℕ} 1000 0))
 
   -- ---- the end
-  module _ {n q : ℕ} {later : List ℕ} {wrong : List Bool} (s : Swept F cols R len b n q later wrong) where
+  module _ {n q : ℕ} {later : List ℕ} {wrong : List ℕ} (s : Swept F cols R len b n q later wrong) where
     -- nothing is wrong at q at the first n distances
     early : (m : ℕ) → m < n → BadAt F cols R m q → EndsBy cols len → ⊥
     early m h bad fits = go (dec_lt q len)
@@ -98,7 +97,7 @@ module _ (F : List ℕ) (cols : List Dated) (R len b : ℕ) where
         in_none bad.other (rw (none bad.one bad.first) at here)
 
     -- ---- one distance more
-    module _ {row later' : List ℕ} {wrong' : List Bool} {r : ℕ} (by : TurnsBy F n row)
+    module _ {row later' : List ℕ} {wrong' : List ℕ} {r : ℕ} (by : TurnsBy F n row)
         (kept : AllKept cols n q 32 later later')
         (adds : Adds wrong (λ x. (q ≤ x) × HitAny cols row R n later 32 x) wrong')
         (found : FirstUnmarked wrong' len q r)

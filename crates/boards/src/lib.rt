@@ -11,7 +11,7 @@ use columns::Dated;
 
 // One distance more: all that is wrong n + 1 cycles apart is marked, and the first period that is not marked is given back.
 fn sweep_distance(
-    wrong: &mut [bool; 1000],
+    wrong: &mut [u8; 1000],
     later: &mut [u32; 32],
     cols: &[Dated; 32],
     row: &[u32; 32],
@@ -32,7 +32,7 @@ fn sweep_distance(
 // Sixteen distances, from done + 1 on, by their rows. It may end early: where so many cycles take until the end of the table, or where no
 // operation may meet another any more, nothing is wrong at any further distance.
 fn sweep_block(
-    wrong: &mut [bool; 1000],
+    wrong: &mut [u8; 1000],
     later: &mut [u32; 32],
     cols: &[Dated; 32],
     rows: [[u32; 32]; 16],
@@ -63,7 +63,7 @@ fn sweep_block(
 
 // All further distances, a block of rows after the other: it ends by what is left, not at a count.
 fn sweep_rest(
-    wrong: &mut [bool; 1000],
+    wrong: &mut [u8; 1000],
     later: &mut [u32; 32],
     cols: &[Dated; 32],
     follow: &[u32; 32],
@@ -106,7 +106,7 @@ pub fn first_right(
     ensures { FirstRight follow.now cols.now reached len bound result }
 {
     let mut later = laters::later_sets(cols, bound);
-    let mut wrong = [false; 1000];
+    let mut wrong = [0u8; 1000];
     let q = sweep_distance(&mut wrong, &mut later, cols, follow, reached, len, 0, bound);
     sweep_rest(&mut wrong, &mut later, cols, follow, reached, len, q)
 }

@@ -19,6 +19,7 @@ use Rattle.fields.specs.FieldLaws.{field_bad, field_ranged}
 use Rattle.fields.specs.RefusalLaws.{then_refusal}
 use Rattle.widths.specs.WidthLaws.{size_least}
 use Rattle.table.specs.Tables.{JudgedAs, who_of, who_in, table_of, table_in}
+use Rattle.table.specs.TableLaws.{nops_count}
 use Rattle.table.specs.JudgedLaws.{granted}
 use Rattle.table.specs.declared.Table.{Table}
 use Rattle.deciders.specs.Deciders.{behind_of, handed_of}
@@ -151,10 +152,15 @@ pub handed_fine : (T : rules.Table) {n : ℕ} → n ≡ nops T → (who : rules.
 unfolding handed_of
 handed_fine T count who e = then_accepts _ (ranged_yes _ (ops_end T) (ap (λ (k : ℕ). decider_wrong k who) (sym count) ∙ e))
 
--- ---- of the code's table that is zero where nothing counts
+-- ---- of the code's table
+
+pub count_is : (t : Table) → t.count ≤ length t.ops → t.count ≡ nops (table_of t)
+count_is t full = sym (nops_count t full)
+
+-- of the table that is zero where nothing counts
 module _ (t : Table) (tidy : t ≡ table_in (table_of t)) where
-  pub count_is : t.count ≡ nops (table_of t)
-  count_is = ap (λ (u : Table). u.count) tidy
+  pub tidy_count : t.count ≡ nops (table_of t)
+  tidy_count = ap (λ (u : Table). u.count) tidy
 
   -- with who is named it is the table of a verdict that accepts so
   pub named_by : {v : Verdict rules.Table} (who : Option ℕ) → v ≡ accepted (with_decider (table_of t) (who_of who)) → JudgedAs v (Ok (record t { decider = who }))

@@ -1,7 +1,7 @@
 -- The tests of a field without its ranges.
 -- Assumes nothing.
-use Rattle.std.specs.Prelude.{ℕ, ◌<◌, ◌≡◌, List, Option, Some, None}
-use Rattle.rules.specs.Verdicts.{Test, ◌then◌}
+use Rattle.std.specs.Prelude.{ℕ, ◌+◌, ◌<◌, ◌≡◌, List, Option, Some, None}
+use Rattle.rules.specs.Verdicts.{Test, accepted, refused, RANGE, ◌then◌}
 use Rattle.rules.specs.Judge.{needed, header, due, not_many, sized, complete}
 
 unfoldable pub sized_of : List ℕ → ℕ → ℕ → Test
@@ -17,3 +17,8 @@ repeat_of s at left tag size = header s at then due s at tag then not_many at le
 abbrev pub IsPlace : Option ℕ → ℕ → Type 0
 IsPlace None n = 0 ≡ n
 IsPlace (Some w) n = (w ≡ n) × (0 < w)
+
+-- what the range test says of the field at a place: where a number is told, it is wrong, whatever its place in the field
+abbrev pub told_wrong : Option ℕ → ℕ → Test
+told_wrong None at = accepted tt
+told_wrong (Some w) at = refused RANGE at (at + w)

@@ -5,7 +5,7 @@ ghost use Rattle.std.specs.Prelude.{◌≡◌, ℕ, ◌+◌, ◌^◌, ◌<◌, �
 ghost use Rattle.rules.specs.Bytes.{num8, num16, num32};
 ghost use Rattle.rules.specs.Judge.{ranged};
 ghost use Rattle.fields.specs.Verdicts.{answered};
-ghost use Rattle.fields.specs.Fields.{sized_of, field_of, repeat_of, IsPlace};
+ghost use Rattle.fields.specs.Fields.{sized_of, field_of, repeat_of, IsPlace, told_wrong};
 
 // A refusal: its name in the documents, and its a and b where they are not always 0.
 #[derive(Clone, Copy, Debug, PartialEq, Eq)]
@@ -98,7 +98,8 @@ pub fn repeat_test(s: &[u8], at: usize, left: usize, tag: u8, size: usize) -> Re
 // The answer of a range test on the field at a place, by where in the field the first wrong number begins, if one is wrong.
 pub fn range_test(wrong: Option<usize>, at: usize) -> Result<(), Refusal>
     requires { IfSome wrong (λ w. at + w < 2 ^ 64) }
-    ensures { (n : ℕ) → IsPlace wrong n → answered result ≡ ranged n at }
+    ensures ruled { (n : ℕ) → IsPlace wrong n → answered result ≡ ranged n at }
+    ensures told { answered result ≡ told_wrong wrong at }
 {
     match wrong {
         None => Ok(()),

@@ -2,17 +2,26 @@
 -- Assumes nothing.
 use Rattle.std.specs.Prelude.{ℕ, ◌+◌, ◌^◌, ◌<◌, ◌≡◌, List, ◌⊎◌, length, set}
 use Rattle.std.proofs.Common.{sym, subst, inl, inr, arith}
+use Rattle.std.proofs.Math.Path.{subst⁻¹}
 use Rattle.std.specs.Int.Bits.{bit_or}
-use Rattle.rules.specs.Sets.{In}
+use Rattle.rules.specs.Sets.{In, Share}
 use Rattle.theory.proofs.Order.{Cmp, cmp, filled_more}
 use Rattle.theory.proofs.Sets.{in_none}
 use Rattle.sets.specs.Members.{in_with}
 use Rattle.laters.specs.Laters.{MayMeet, LaterOf, AllLater}
 use Rattle.columns.specs.declared.Dated.{Dated}
+use Rattle.columns.specs.Columns.{op_by}
 
 module _ (cols : List Dated) (i q : ℕ) where
   pub later_none : LaterOf cols i q 0 0
   later_none = record { exact = λ j. (λ h. absurd (in_none j h), λ h. absurd (omega (arith, h.0))) }
+
+  -- an operation without a board meets none
+  pub later_idle : (k : ℕ) → 0 ≡ (op_by cols i).boards → LaterOf cols i q k 0
+  later_idle k e = record { exact = λ j. (λ h. absurd (in_none j h), λ h. no j h.1.0) }
+    where
+      no : (j : ℕ) → Share (op_by cols i).boards (op_by cols j).boards → In j 0
+      no j (b, x, y) = absurd (in_none b (subst⁻¹ (λ (s : ℕ). In b s) e x))
 
   module _ {k r : ℕ} (l : LaterOf cols i q k r) where
     -- the next one may meet i

@@ -7,22 +7,23 @@ ghost use Rattle.laters.specs.Laters.{MayMeet, LaterOf, AllLater, AllEmpty};
 
 use columns::Dated;
 
-// Operation j shares a board with i, and starts one cycle of q later before i has let go of it.
+// Operation j shares a board with i, and starts one cycle of q later before i has let go of it. (By `&`: both are asked without a branch.)
 fn may_meet(cols: &[Dated; 32], i: usize, j: usize, q: u32) -> bool
     requires { (i < 32) × (j < 32) × Short cols.now × (q ≤ 1000) }
     ensures { (result ≡ true) ↔ MayMeet cols.now i q j }
 {
-    if !sets::meets(columns::boards(cols, i), columns::boards(cols, j)) {
-        return false;
-    }
-    columns::start(cols, j) + q < columns::held(cols, i)
+    let shared = sets::meets(columns::boards(cols, i), columns::boards(cols, j));
+    shared & (columns::start(cols, j) + q < columns::held(cols, i))
 }
 
-// All that may meet operation i.
+// All that may meet operation i. Where there is no operation i there is no board of it, and none is asked.
 pub fn later_of(cols: &[Dated; 32], i: usize, q: u32) -> u32
     requires { (i < 32) × Short cols.now × (q ≤ 1000) }
     ensures { LaterOf cols.now i q 32 result }
 {
+    if columns::boards(cols, i) == 0 {
+        return 0;
+    }
     let mut all: u32 = 0;
     for j in 0..32 {
         if may_meet(cols, i, j as usize, q) {

@@ -1,6 +1,6 @@
 -- How marks are added, one number and one operation after the other.
 -- Assumes nothing.
-use Rattle.std.specs.Prelude.{ℕ, suc, ◌+◌, ◌*◌, ◌^◌, ◌<◌, ◌≤◌, ◌≡◌, refl, Bool, true, false, List, ◌↔◌, ◌⊎◌, length, set}
+use Rattle.std.specs.Prelude.{ℕ, suc, ◌+◌, ◌*◌, ◌^◌, ◌<◌, ◌≤◌, ◌≡◌, refl, List, ◌↔◌, ◌⊎◌, length, set}
 use Rattle.std.proofs.Common.{sym, subst, ◌∙◌, inl, inr, mul-le-mul_left, mul-le-mul_right, arith, length-set, get_or-set_same, get_or-set_other}
 use Rattle.std.proofs.Math.Decide.{dec_lt, ℕ_discrete}
 use Rattle.rules.specs.Sets.{In, Within, Overlap}
@@ -14,14 +14,14 @@ use Rattle.marks.specs.Marks.{Marked, Adds, Near, Keeps, Hits}
 
 -- ---- adding
 
-pub adds_none : (wrong : List Bool) {P : ℕ → Type 0} → ((x : ℕ) → P x → ⊥) → Adds wrong P wrong
+pub adds_none : (wrong : List ℕ) {P : ℕ → Type 0} → ((x : ℕ) → P x → ⊥) → Adds wrong P wrong
 adds_none wrong {P} none = record { long = refl; exact = λ x. (λ m. inl m, back x) }
   where
     back : (x : ℕ) → Marked wrong x ⊎ P x → Marked wrong x
     back x (inl m) = m
     back x (inr p) = absurd (none x p)
 
-pub adds_as : {old new : List Bool} {P Q : ℕ → Type 0} → ((x : ℕ) → P x ↔ Q x) → Adds old P new → Adds old Q new
+pub adds_as : {old new : List ℕ} {P Q : ℕ → Type 0} → ((x : ℕ) → P x ↔ Q x) → Adds old P new → Adds old Q new
 adds_as {old} {new} {P} {Q} f a = record { long = a.long; exact = λ x. (λ m. fwd x ((a.exact x).0 m), λ y. (a.exact x).1 (bwd x y)) }
   where
     fwd : (x : ℕ) → Marked old x ⊎ P x → Marked old x ⊎ Q x
@@ -32,7 +32,7 @@ adds_as {old} {new} {P} {Q} f a = record { long = a.long; exact = λ x. (λ m. f
     bwd x (inl m) = inl m
     bwd x (inr q) = inr ((f x).1 q)
 
-pub adds_then : {old mid new : List Bool} {P Q : ℕ → Type 0} → Adds old P mid → Adds mid Q new → Adds old (λ x. P x ⊎ Q x) new
+pub adds_then : {old mid new : List ℕ} {P Q : ℕ → Type 0} → Adds old P mid → Adds mid Q new → Adds old (λ x. P x ⊎ Q x) new
 adds_then {old} {mid} {new} {P} {Q} a b =
     record { long = b.long ∙ a.long; exact = λ x. (λ m. fwd x ((b.exact x).0 m), λ y. (b.exact x).1 (bwd x y)) }
   where
@@ -50,26 +50,26 @@ adds_then {old} {mid} {new} {P} {Q} a b =
     bwd x (inr (inr q)) = inr q
 
 -- ---- numbers in a row
-pub adds_range : {old new : List Bool} {from x : ℕ} → from ≤ x → x < length new → Adds old (λ y. (from ≤ y) × (y < x)) new
-    → Adds old (λ y. (from ≤ y) × (y < x + 1)) (set new x true)
+pub adds_range : {old new : List ℕ} {from x : ℕ} → from ≤ x → x < length new → Adds old (λ y. (from ≤ y) × (y < x)) new
+    → Adds old (λ y. (from ≤ y) × (y < x + 1)) (set new x 1)
 adds_range {old} {new} {from} {x} low h a =
     record {
-      long = length-set new x true ∙ a.long;
+      long = length-set new x 1 ∙ a.long;
       exact = λ y. (fwd y (ℕ_discrete y x), λ z. bwd y (ℕ_discrete y x) z);
     }
   where
-    fwd : (y : ℕ) → Dec (y ≡ x) → Marked (set new x true) y → Marked old y ⊎ ((from ≤ y) × (y < x + 1))
+    fwd : (y : ℕ) → Dec (y ≡ x) → Marked (set new x 1) y → Marked old y ⊎ ((from ≤ y) × (y < x + 1))
     fwd y (yes e) m = inr (omega arith, omega arith)
-    fwd y (no n) m = go ((a.exact y).0 (sym (get_or-set_other new x y true false n) ∙ m))
+    fwd y (no n) m = go ((a.exact y).0 (sym (get_or-set_other new x y 1 0 n) ∙ m))
       where
         go : Marked old y ⊎ ((from ≤ y) × (y < x)) → Marked old y ⊎ ((from ≤ y) × (y < x + 1))
         go (inl k) = inl k
         go (inr (l, k)) = inr (l, omega arith)
 
-    bwd : (y : ℕ) → Dec (y ≡ x) → Marked old y ⊎ ((from ≤ y) × (y < x + 1)) → Marked (set new x true) y
-    bwd y (yes e) z = rw e (get_or-set_same new x true false h)
-    bwd y (no n) (inl k) = get_or-set_other new x y true false n ∙ (a.exact y).1 (inl k)
-    bwd y (no n) (inr (l, k)) = get_or-set_other new x y true false n ∙ (a.exact y).1 (inr (l, omega arith))
+    bwd : (y : ℕ) → Dec (y ≡ x) → Marked old y ⊎ ((from ≤ y) × (y < x + 1)) → Marked (set new x 1) y
+    bwd y (yes e) z = rw e (get_or-set_same new x 1 0 h)
+    bwd y (no n) (inl k) = get_or-set_other new x y 1 0 n ∙ (a.exact y).1 (inl k)
+    bwd y (no n) (inr (l, k)) = get_or-set_other new x y 1 0 n ∙ (a.exact y).1 (inr (l, omega arith))
 
 -- ---- two operations
 module _ (startI heldI startJ heldJ n q lo hi : ℕ) (low : Raised q (InTime (startI + 1) heldJ n) lo) (high : Raised q (InTime heldI startJ n) hi)
@@ -116,10 +116,10 @@ module _ (q s : ℕ) (P : ℕ → ℕ → Type 0) where
   abbrev pub SoFar : ℕ → ℕ → Type 0
   SoFar left x = (q ≤ x) × ((j : ℕ) × Past s left j × P j x)
 
-  pub adds_first : (wrong : List Bool) → Adds wrong (SoFar s) wrong
+  pub adds_first : (wrong : List ℕ) → Adds wrong (SoFar s) wrong
   adds_first wrong = adds_none wrong (λ x (l, (j, p, y)). past_none s j p)
 
-  pub adds_next : {old mid new : List Bool} (left m : ℕ) → Within left s → In m left
+  pub adds_next : {old mid new : List ℕ} (left m : ℕ) → Within left s → In m left
       → Adds old (SoFar left) mid → Adds mid (λ x. (q ≤ x) × P m x) new → Adds old (SoFar (without left (2 ^ m))) new
   adds_next left m inside here a b = adds_as (λ x. (fwd x, bwd x)) (adds_then a b)
     where
@@ -134,7 +134,7 @@ module _ (q s : ℕ) (P : ℕ → ℕ → Type 0) where
           go (inl z) = inl (l, (j, z, y))
           go (inr e) = inr (l, subst (λ (k : ℕ). P k x) e y)
 
-  pub adds_all : {old new : List Bool} → Adds old (SoFar 0) new → Adds old (λ x. (q ≤ x) × ((j : ℕ) × In j s × P j x)) new
+  pub adds_all : {old new : List ℕ} → Adds old (SoFar 0) new → Adds old (λ x. (q ≤ x) × ((j : ℕ) × In j s × P j x)) new
   adds_all = adds_as (λ x. (λ (l, (j, p, y)). (l, (j, p.0, y)), λ (l, (j, h, y)). (l, (j, past_all s j h, y))))
 
 -- those that are kept: of the visited ones the near ones

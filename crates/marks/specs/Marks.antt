@@ -1,17 +1,17 @@
 -- Periods that are marked, and the operations for which they are.
 -- Assumes nothing.
-use Rattle.std.specs.Prelude.{ℕ, suc, ◌+◌, ◌*◌, ◌<◌, ◌≡◌, Bool, true, false, List, ◌↔◌, ◌⊎◌, length, get_or}
+use Rattle.std.specs.Prelude.{ℕ, suc, ◌+◌, ◌*◌, ◌<◌, ◌≡◌, List, ◌↔◌, ◌⊎◌, length, get_or}
 use Rattle.rules.specs.Sets.{In, Share, Overlap}
 use Rattle.rules.specs.Table.{Op, held_to}
 use Rattle.columns.specs.Columns.{op_by}
 use Rattle.columns.specs.declared.Dated.{Dated}
 
 -- the number x is marked
-abbrev pub Marked : List Bool → ℕ → Type 0
-Marked wrong x = get_or wrong x false ≡ true
+abbrev pub Marked : List ℕ → ℕ → Type 0
+Marked wrong x = get_or wrong x 0 ≡ 1
 
 -- the marks of `new` are those of `old` and the numbers at which P holds
-pub record Adds (old : List Bool) (P : ℕ → Type 0) (new : List Bool) : Type 0 where
+pub record Adds (old : List ℕ) (P : ℕ → Type 0) (new : List ℕ) : Type 0 where
   pub long : length new ≡ length old
   pub exact : (x : ℕ) → Marked new x ↔ (Marked old x ⊎ P x)
 

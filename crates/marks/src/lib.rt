@@ -8,18 +8,21 @@ ghost use Rattle.marks.specs.Marks.{Adds, Meets, Near, Keeps, Hits, HitBy};
 use columns::Dated;
 use sets::Members;
 
-// The numbers from one up to but not including another.
-fn mark(wrong: &mut [bool; 1000], from: u32, to: u32)
+// The numbers from one up to but not including another. The marks are bytes and no bools: a byte that is neither 0 nor 1 is no mark, which
+// docs/PROMISES.md says of `mark_op` and of `sweeps::mark_distance`.
+fn mark(wrong: &mut [u8; 1000], from: u32, to: u32)
     requires { (length wrong.old ≡ 1000) × (to ≤ 1000) }
     ensures { Adds wrong.old (λ x. (from ≤ x) × (x < to)) wrong.new }
 {
     for x in from..to {
-        wrong[x as usize] = true;
+        wrong[x as usize] = 1;
     }
 }
 
 // The periods from q on at which operation j, n + 1 cycles after i, runs while i holds its boards.
-fn mark_pair(wrong: &mut [bool; 1000], cols: &[Dated; 32], i: usize, j: usize, n: u32, q: u32)
+// Not put into its callers: the walk over the sets, most of which are empty, then keeps its count in a register.
+#[inline(never)]
+fn mark_pair(wrong: &mut [u8; 1000], cols: &[Dated; 32], i: usize, j: usize, n: u32, q: u32)
     requires { (length wrong.old ≡ 1000) × (i < 32) × (j < 32) × Short cols.now × (n ≤ 1000) × (q ≤ 1000) }
     ensures { Adds wrong.old (λ x. (q ≤ x) × Meets (op_by cols.now i) (op_by cols.now j) n x) wrong.new }
 {
@@ -31,7 +34,7 @@ fn mark_pair(wrong: &mut [bool; 1000], cols: &[Dated; 32], i: usize, j: usize, n
 // The same where j can run in one of the modes `after`. Whether j still counts: who starts when i has let go of its boards does so at every
 // further distance and every longer period.
 fn mark_one(
-    wrong: &mut [bool; 1000],
+    wrong: &mut [u8; 1000],
     cols: &[Dated; 32],
     i: usize,
     j: usize,
@@ -55,7 +58,7 @@ fn mark_one(
 
 // The same for each operation of a set; those that still count are given back.
 pub fn mark_op(
-    wrong: &mut [bool; 1000],
+    wrong: &mut [u8; 1000],
     cols: &[Dated; 32],
     i: usize,
     set: u32,

@@ -1,9 +1,9 @@
 -- The text for each question, and that what is printed for a question of the code is printed for the words that ask it, also where a number
 -- was beyond 64 bits.
 -- Assumes nothing.
-use Rattle.std.specs.Prelude.{ℕ, ◌<◌, ◌≡◌, Bool, true, false, List, [], map, ℤ, length, take}
+use Rattle.std.specs.Prelude.{ℕ, ◌<◌, ◌≡◌, Bool, true, false, List, [], map, ℤ, length, take, min}
 use Rattle.std.proofs.Math.Path.{refl, subst⁻¹}
-use Rattle.std.proofs.Common.{ap, subst, ◌∙◌, inl, inr, arith}
+use Rattle.std.proofs.Common.{ap, subst, ◌∙◌, inl, inr, arith, take_all, length-take}
 use Rattle.std.proofs.Math.Decide.{dec_lt}
 use Rattle.rules.specs.Words.{fold_asked, boards_asked, values_asked, margin_asked, unfold_asked, gap_asked, nothing_asked, question_of, is_asked, askable}
 use Rattle.rules.specs.Words as rules
@@ -18,8 +18,8 @@ use Rattle.text.specs.TextLaws.{text_front}
 use Rattle.folds.specs.Folds.{TextFor}
 use Rattle.words.specs.declared.Question.{Question}
 use Rattle.words.specs.declared.Question.TheVariants as question
-use Rattle.words.specs.Words.{largest, capped, capped_question, read_as, asked_by, Asks}
-use Rattle.words.specs.AskLaws.{asks_words}
+use Rattle.words.specs.Words.{largest, capped, capped_question, read_as, asked_by, Asks, AsksFirst}
+use Rattle.words.specs.AskLaws.{asks_words, first_asks}
 use Rattle.saying.specs.Said.{SaidFor}
 
 -- a capped number is the number, or both are beyond every range
@@ -97,6 +97,13 @@ words_printed ws five q s text read asks said =
       said_capped (question_of ws) s text (subst (λ (x : rules.Question). IsSaid x s text) same said),
       ap (λ (x : rules.Question). printed x text) same ∙ capped_printed (question_of ws) text,
     )
+
+-- the same for what `question_of` promises of the words that it is handed: as many as there are, or more than five, of which the first five are read
+pub first_printed : (ws : List (List ℕ)) (first : List rules.Word) (q : Question) (s text : List ℕ) → min (length ws) 6 ≡ min (length first) 6
+    → take 5 first ≡ map read_as (take 5 ws) → AsksFirst first q → IsSaid (asked_by q) s text → IsPrinted ws s (printed (asked_by q) text)
+first_printed ws first q s text count read asked said =
+    let all : take (length ws) (take 5 first) ≡ take 5 first = take_all (length ws) (take 5 first) (simp length-take (omega (arith, count))) in
+    words_printed ws (take 5 first) q s text (all ∙ read) (first_asks first q asked (length ws) count) said
 
 -- ---- the stream of a text
 module _ (q : rules.Question) (text : List ℕ) where

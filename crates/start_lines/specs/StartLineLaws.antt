@@ -32,7 +32,7 @@ start_open i t = refl
 start_line_lem : (i : ℕ) (t : Ticks) → start_line i t ≡ op_word ++ decimal i ++ (start_word ++ decimal t.number) ++ newline
 start_line_lem i t = start_open i t ∙ ap (λ (l : List ℕ). l ++ newline) (append_assoc (op_word ++ decimal i) start_word (decimal t.number))
 
-start_length : (i : ℕ) (t : Ticks) → length (start_line i t) ≡ 11 + length (decimal i) + length (decimal t.number)
+pub start_length : (i : ℕ) (t : Ticks) → length (start_line i t) ≡ 11 + length (decimal i) + length (decimal t.number)
 start_length i t = omega (arith, simp length-append at (ap length (start_open i t)))
 
 pub start-put : (i : ℕ) (t : Ticks) (out : List ℕ) (at : ℕ) {one two end : List ℕ} {m k n : ℕ} → Puts out one at m (op_word ++ decimal i)
@@ -48,7 +48,7 @@ op_digits i h = omega (arith, decimal_length 1 i h)
 pub date_digits : (d : ℕ) → d < 2 ^ 32 → length (decimal d) ≤ 10
 date_digits d h = omega (arith, decimal_length 9 d (omega arith))
 
-start_short : (i : ℕ) (t : Ticks) → i < 100 → t.number < 2 ^ 32 → length (start_line i t) ≤ 23
+pub start_short : (i : ℕ) (t : Ticks) → i < 100 → t.number < 2 ^ 32 → length (start_line i t) ≤ 23
 start_short i t h g = omega (arith, start_length i t, op_digits i h, date_digits t.number g)
 
 -- ---- the lines of the first n rows

@@ -1,6 +1,6 @@
 -- One operation after the other at one distance.
 -- Assumes nothing.
-use Rattle.std.specs.Prelude.{ℕ, ◌+◌, ◌<◌, ◌≤◌, ◌≡◌, refl, Bool, List, ◌⊎◌, length, get_or, set}
+use Rattle.std.specs.Prelude.{ℕ, ◌+◌, ◌<◌, ◌≤◌, ◌≡◌, refl, List, ◌⊎◌, length, get_or, set}
 use Rattle.std.proofs.Common.{sym, subst, ◌∙◌, inl, inr, arith, length-set, get_or-set_same, get_or-set_other}
 use Rattle.theory.proofs.Order.{Cmp, cmp}
 use Rattle.theory.proofs.Sets.{in_none}
@@ -13,17 +13,17 @@ use Rattle.columns.specs.declared.Dated.{Dated}
 pub keeps_none : (cols : List Dated) (i n q : ℕ) → Keeps cols i n q 0 0
 keeps_none cols i n q = record { exact = λ j. (λ h. absurd (in_none j h), λ h. h.0) }
 
-pub adds_empty : (cols : List Dated) (i after n q : ℕ) (wrong : List Bool) → Adds wrong (λ x. (q ≤ x) × HitBy cols i after n 0 x) wrong
+pub adds_empty : (cols : List Dated) (i after n q : ℕ) (wrong : List ℕ) → Adds wrong (λ x. (q ≤ x) × HitBy cols i after n 0 x) wrong
 adds_empty cols i after n q wrong = adds_none wrong (λ x (l, (j, h, y)). in_none j h)
 
 -- what the loop over the operations keeps: those below i are done, the others are as they were
-pub record Done (cols : List Dated) (row : List ℕ) (R n q : ℕ) (later₀ : List ℕ) (wrong₀ : List Bool) (later : List ℕ) (wrong : List Bool) (i : ℕ) : Type 0 where
+pub record Done (cols : List Dated) (row : List ℕ) (R n q : ℕ) (later₀ : List ℕ) (wrong₀ : List ℕ) (later : List ℕ) (wrong : List ℕ) (i : ℕ) : Type 0 where
   pub long : length later ≡ 32
   pub kept : AllKept cols n q i later₀ later
   pub same : (k : ℕ) → i ≤ k → get_or later k 0 ≡ get_or later₀ k 0
   pub adds : Adds wrong₀ (λ x. (q ≤ x) × HitAny cols row R n later₀ i x) wrong
 
-module _ (cols : List Dated) (row : List ℕ) (R n q : ℕ) (later₀ : List ℕ) (wrong₀ : List Bool) where
+module _ (cols : List Dated) (row : List ℕ) (R n q : ℕ) (later₀ : List ℕ) (wrong₀ : List ℕ) where
   abbrev Hit : ℕ → ℕ → Type 0
   Hit i x = HitAny cols row R n later₀ i x
 
@@ -36,7 +36,7 @@ module _ (cols : List Dated) (row : List ℕ) (R n q : ℕ) (later₀ : List ℕ
         adds = adds_none wrong₀ (λ x (h, (i, z, y)). omega (arith, z));
       }
 
-  module _ {later : List ℕ} {wrong new : List Bool} {i r : ℕ} (h : i < 32) (d : Done cols row R n q later₀ wrong₀ later wrong i)
+  module _ {later : List ℕ} {wrong new : List ℕ} {i r : ℕ} (h : i < 32) (d : Done cols row R n q later₀ wrong₀ later wrong i)
       (keep : Keeps cols i n q (get_or later i 0) r)
       (more : Adds wrong (λ x. (q ≤ x) × HitBy cols i (modes_after cols row R i) n (get_or later i 0) x) new)
     where

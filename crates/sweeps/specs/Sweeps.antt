@@ -1,6 +1,6 @@
 -- What is wrong at one distance of cycles, and the first period that is not marked.
 -- Assumes nothing.
-use Rattle.std.specs.Prelude.{ℕ, ◌<◌, ◌≤◌, Bool, List, get_or}
+use Rattle.std.specs.Prelude.{ℕ, ◌<◌, ◌≤◌, List, get_or}
 use Rattle.std.specs.Int.Bits.{bit_and}
 use Rattle.theory.specs.Tests.{step}
 use Rattle.columns.specs.Columns.{op_by}
@@ -20,7 +20,7 @@ pub record AllKept (cols : List Dated) (n q k : ℕ) (old new : List ℕ) : Type
   pub each : (i : ℕ) → i < k → Keeps cols i n q (get_or old i 0) (get_or new i 0)
 
 -- r is the first number from q on that is not marked, or `len`
-pub record FirstUnmarked (wrong : List Bool) (len q r : ℕ) : Type 0 where
+pub record FirstUnmarked (wrong : List ℕ) (len q r : ℕ) : Type 0 where
   pub low : q ≤ r
   pub high : r ≤ len
   pub passed : (x : ℕ) → q ≤ x → x < r → Marked wrong x

@@ -12,7 +12,7 @@ use columns::Dated;
 // The periods from q on at which one of a set wants a board of operation i, n + 1 cycles later, as the row says; `reached` has the modes that
 // a run can reach. Those of the set that still count are given back.
 fn mark_set(
-    wrong: &mut [bool; 1000],
+    wrong: &mut [u8; 1000],
     cols: &[Dated; 32],
     row: &[u32; 32],
     reached: u32,
@@ -34,7 +34,7 @@ fn mark_set(
 
 // The same for every operation, with its own set.
 pub fn mark_distance(
-    wrong: &mut [bool; 1000],
+    wrong: &mut [u8; 1000],
     later: &mut [u32; 32],
     cols: &[Dated; 32],
     row: &[u32; 32],
@@ -52,12 +52,12 @@ pub fn mark_distance(
 }
 
 // The first period from q on that is not marked, and the table's length if all are.
-pub fn first_unmarked(wrong: &[bool; 1000], len: u32, q: u32) -> u32
+pub fn first_unmarked(wrong: &[u8; 1000], len: u32, q: u32) -> u32
     requires { (len ≤ 1000) × (q ≤ len) }
     ensures { FirstUnmarked wrong.now len q result }
 {
     for x in q..len {
-        if !wrong[x as usize] {
+        if wrong[x as usize] != 1 {
             return x;
         }
     }

@@ -53,7 +53,7 @@ pub fn block(follow: &[u32; 32], row: &[u32; 32]) -> [[u32; 32]; 16]
     let mut still = false;
     for entry in &mut rows {
         let next = row_on(follow, &last, still);
-        still = next == last;
+        still = still || next == last;
         last = next;
         *entry = last;
     }

@@ -28,9 +28,9 @@ pub returns-in_err-range_test : goal.returns-in_err-range_test
 returns-in_err-range_test c =
     let p = err_from_is_err_and c.from_residual-in_err-range_test.result c.from_residual-in_err-range_test.ensures.1 in
     rw (p.1, p.2)
-    (test_range c.args.s.now c.args.at c.args.count (omega arith) c.in_ok-field_at.ensures c.byte.ensures.0 _ (c.in_err-range_test.ensures _ c.decider_wrong-wrong.ensures))
+    (test_range c.args.s.now c.args.at c.args.count (omega arith) c.in_ok-field_at.ensures c.byte.ensures.0 _ (c.in_err-range_test.ensures.ruled _ c.decider_wrong-wrong.ensures))
 
 pub returns : goal.returns
 returns c =
     c.nothing_due.ensures
-    ∙ test_fine c.args.s.now c.args.at c.args.count (omega arith) c.in_ok-field_at.ensures c.byte.ensures.0 (c.in_ok-range_test.ensures _ c.decider_wrong-wrong.ensures)
+    ∙ test_fine c.args.s.now c.args.at c.args.count (omega arith) c.in_ok-field_at.ensures c.byte.ensures.0 (c.in_ok-range_test.ensures.ruled _ c.decider_wrong-wrong.ensures)

@@ -8,14 +8,14 @@ use Rattle.table.specs.Tables.{who_of, table_of}
 use Rattle.table.specs.TableLaws.{kept_few}
 use Rattle.widths.specs.WidthLaws.{size_few}
 use Rattle.deciders.specs.Deciders.{handed_of}
-use Rattle.deciders.specs.DeciderLaws.{handed_bad, handed_fine, count_is, named_by}
+use Rattle.deciders.specs.DeciderLaws.{handed_bad, handed_fine, tidy_count, named_by}
 use Rattle.deciders.proofs.hand_behind.Goals as goal
 
 pub returns-in_default : goal.returns-in_default
 returns-in_default c =
     named_by c.args.t c.requires _
     (ap (λ (d : Option ℕ). handed_of (who_of d) (table_of c.args.t)) c.in_default.is
-    ∙ handed_fine (table_of c.args.t) (count_is c.args.t c.requires) nobody (decider_none _))
+    ∙ handed_fine (table_of c.args.t) (tidy_count c.args.t c.requires) nobody (decider_none _))
 
 pub overflow_add-result : goal.overflow_add-result
 overflow_add-result c =
@@ -35,10 +35,10 @@ returns-in-Some-decider_wrong c =
     sym
     (onwards_refuses _
     (ap (λ (d : Option ℕ). handed_of (who_of d) (table_of c.args.t)) c.in-Some.is
-    ∙ handed_bad (table_of c.args.t) c.ops_end-at.ensures (count_is c.args.t c.requires) (decides c.in-Some.d) is (λ none. omega arith)))
+    ∙ handed_bad (table_of c.args.t) c.ops_end-at.ensures (tidy_count c.args.t c.requires) (decides c.in-Some.d) is (λ none. omega arith)))
 
 pub returns : goal.returns
 returns c =
     named_by c.args.t c.requires _
     (ap (λ (d : Option ℕ). handed_of (who_of d) (table_of c.args.t)) c.in-Some.is
-    ∙ handed_fine (table_of c.args.t) (count_is c.args.t c.requires) (decides c.in-Some.d) (sym c.in_default-decider_wrong.ensures))
+    ∙ handed_fine (table_of c.args.t) (tidy_count c.args.t c.requires) (decides c.in-Some.d) (sym c.in_default-decider_wrong.ensures))

@@ -6,13 +6,13 @@ use Rattle.std.proofs.lemmas.Result.{err_from_is_err_and}
 use Rattle.rules.specs.Judge.{ops_place}
 use Rattle.table.specs.JudgedLaws.{denied}
 use Rattle.table.specs.Tables.{table_of}
-use Rattle.deciders.specs.DeciderLaws.{test_whole, behind_bad, behind_fine, behind_none, count_is, named_by}
+use Rattle.deciders.specs.DeciderLaws.{test_whole, behind_bad, behind_fine, behind_none, tidy_count, named_by}
 use Rattle.deciders.proofs.read_behind.Goals as goal
 
 pub returns-then-s-ops_place : goal.returns-then-s-ops_place
 returns-then-s-ops_place c =
     let over : length c.args.s.now ≤ ops_place c.args.t.modes + 21 * c.args.t.count = omega (arith, c.ops_place.ensures) in
-    named_by c.args.t c.requires _ (behind_none (table_of c.args.t) refl (count_is c.args.t c.requires) c.args.s.now over)
+    named_by c.args.t c.requires _ (behind_none (table_of c.args.t) refl (tidy_count c.args.t c.requires) c.args.s.now over)
 
 pub returns-in_err-field_test : goal.returns-in_err-field_test
 returns-in_err-field_test c =
@@ -21,7 +21,7 @@ returns-in_err-field_test c =
     rw (
       p.1,
       p.2,
-      behind_bad (table_of c.args.t) c.ops_end-at.ensures (count_is c.args.t c.requires) c.args.s.now q c.in_err-field_test.ensures,
+      behind_bad (table_of c.args.t) c.ops_end-at.ensures (tidy_count c.args.t c.requires) c.args.s.now q c.in_err-field_test.ensures,
     )
     (denied q)
 
@@ -31,4 +31,4 @@ who_at-requires c = test_whole _ _ _ (sym c.in_ok-field_test.ensures)
 pub returns : goal.returns
 returns c =
     named_by c.args.t c.requires _
-    (behind_fine (table_of c.args.t) c.ops_end-at.ensures (count_is c.args.t c.requires) c.args.s.now c.in_ok-field_test.ensures c.who_at.ensures)
+    (behind_fine (table_of c.args.t) c.ops_end-at.ensures (tidy_count c.args.t c.requires) c.args.s.now c.in_ok-field_test.ensures c.who_at.ensures)

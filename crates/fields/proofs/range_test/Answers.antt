@@ -6,12 +6,12 @@ use Rattle.theory.proofs.Ranges.{ranged_yes, ranged_no}
 use Rattle.fields.specs.Fields.{IsPlace}
 use Rattle.fields.proofs.range_test.Goals as goal
 
-pub returns-in-None : goal.returns-in-None
-returns-in-None c =
+pub returns-in-None-clause-ruled : goal.returns-in-None-clause-ruled
+returns-in-None-clause-ruled c =
     λ n is. let none : 0 ≡ n = subst (λ (w : Option ℕ). IsPlace w n) c.in-None.is is in sym (ranged_yes n c.args.at (sym none))
 
-pub returns-in-Some : goal.returns-in-Some
-returns-in-Some c =
+pub returns-in-Some-clause-ruled : goal.returns-in-Some-clause-ruled
+returns-in-Some-clause-ruled c =
     λ n is.
     let w = c.in-Some.wrong in
     let at = c.args.at in

@@ -11,16 +11,17 @@ returns-then-not-is_set_of c = (sym (first_wrong_lem _ _ _ (sym c.is_set_of.ensu
 pub loop-m-init : goal.loop-m-init
 loop-m-init c = first_fine _ _ _ (sym c.is_set_of.ensures ∙ c.if-not-is_set_of.false)
 
+-- before the return behind the same test: a word that is not tested is refused here, where it fails
+pub loop-m-preserved : goal.loop-m-preserved
+loop-m-preserved c =
+    let h : c.loop-m.m < length c.args.follow.now = omega arith in
+    c.loop-m.invariant ∙ set_fine 7 c.args.modes c.args.follow.now c.loop-m.m h (sym c.is_set_of-in-loop-m.ensures ∙ c.if-not-is_set_of-2.false)
+
 pub returns-then-not-is_set_of-2 : goal.returns-then-not-is_set_of-2
 returns-then-not-is_set_of-2 c =
     let h : c.loop-m.m < length c.args.follow.now = omega arith in
     let wrong = set_wrong 7 c.args.modes c.args.follow.now c.loop-m.m h (sym c.is_set_of-in-loop-m.ensures ∙ c.if-not-is_set_of-2.true) in
     (sym (c.loop-m.invariant ∙ wrong), omega arith)
-
-pub loop-m-preserved : goal.loop-m-preserved
-loop-m-preserved c =
-    let h : c.loop-m.m < length c.args.follow.now = omega arith in
-    c.loop-m.invariant ∙ set_fine 7 c.args.modes c.args.follow.now c.loop-m.m h (sym c.is_set_of-in-loop-m.ensures ∙ c.if-not-is_set_of-2.false)
 
 pub returns : goal.returns
 returns c =

@@ -34,13 +34,13 @@ pub returns-in_err-range_test : goal.returns-in_err-range_test
 returns-in_err-range_test c =
     let p = err_from_is_err_and c.from_residual.result c.from_residual.ensures.1 in
     rw (p.1, p.2)
-    (c.in_err-range_test.ensures _ c.wide_wrong.ensures
+    (c.in_err-range_test.ensures.ruled _ c.wide_wrong.ensures
     ∙ op_ranged (sized c.args.counts) _ _ c.args.count _ (omega arith) c.wide_at-w.result c.wide_at-w.ensures (omega arith) (omega arith))
 
 pub narrow-requires : goal.narrow-requires
-narrow-requires c = range_passed _ c.args.place (sym (c.in_ok-range_test.ensures _ c.wide_wrong.ensures))
+narrow-requires c = range_passed _ c.args.place (sym (c.in_ok-range_test.ensures.ruled _ c.wide_wrong.ensures))
 
 pub returns : goal.returns
 returns c =
     let test = op_ranged (sized c.args.counts) c.args.ops.now c.args.holds.now c.args.count c.args.place (omega arith) c.wide_at-w.result c.wide_at-w.ensures (omega arith) (omega arith) in
-    (sym test ∙ sym (c.in_ok-range_test.ensures _ c.wide_wrong.ensures), ap op_in (c.narrow.ensures ∙ c.wide_at-w.ensures.0))
+    (sym test ∙ sym (c.in_ok-range_test.ensures.ruled _ c.wide_wrong.ensures), ap op_in (c.narrow.ensures ∙ c.wide_at-w.ensures.0))

@@ -15,5 +15,5 @@ range_test-requires c =
 
 pub returns : goal.returns
 returns c =
-    c.range_test.ensures _ c.counts_wrong.ensures
+    c.range_test.ensures.ruled _ c.counts_wrong.ensures
     ∙ field_ranged _ _ _ _ _ _ c.in_ok-field_at.ensures (rw (c.byte-boards.ensures.0, c.byte-cells.ensures.0, c.byte-modes.ensures.0))

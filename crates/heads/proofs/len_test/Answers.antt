@@ -18,5 +18,5 @@ range_test-requires c = place_fits _ _ _ c.len_wrong-wrong.ensures (omega (arith
 
 pub returns : goal.returns
 returns c =
-    c.range_test.ensures _ c.len_wrong-wrong.ensures
+    c.range_test.ensures.ruled _ c.len_wrong-wrong.ensures
     ∙ field_ranged _ _ _ _ _ _ c.in_ok-field_at.ensures (ap len_wrong c.be16.ensures.0)

@@ -20,4 +20,4 @@ range_test-requires c =
     place_fits _ _ _ c.sets_wrong.ensures (omega (arith, sets_within c.args.modes ws refl, length_words c.args.s.now 14 (c.args.modes + 1)))
 
 pub returns : goal.returns
-returns c = c.range_test.ensures _ c.sets_wrong.ensures ∙ field_ranged _ _ _ _ _ _ c.in_ok-field_at.ensures refl
+returns c = c.range_test.ensures.ruled _ c.sets_wrong.ensures ∙ field_ranged _ _ _ _ _ _ c.in_ok-field_at.ensures refl

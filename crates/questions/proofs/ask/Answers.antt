@@ -7,7 +7,7 @@ use Rattle.table.specs.Tables.{table_of}
 use Rattle.table.specs.JudgedLaws.{denied, granted}
 use Rattle.reading.specs.ReadLaws.{reads}
 use Rattle.asks.specs.AskLaws.{range_in, range_out}
-use Rattle.questions.specs.QuestionLaws.{asked_unread, asked_denied, asked_granted}
+use Rattle.questions.specs.QuestionLaws.{asked_unread, read_denied, read_granted}
 use Rattle.questions.proofs.ask.Goals as goal
 
 pub returns-in_err-t : goal.returns-in_err-t
@@ -18,10 +18,10 @@ returns-in_err-t c =
 pub returns-then-not-in_range : goal.returns-then-not-in_range
 returns-then-not-in_range c =
     let k = reads _ _ c.in_ok-t.ensures in
-    rw (asked_denied k c.args.q (λ l h. range_out c.in_range.ensures c.if-not-in_range.true-raw (omega (arith, l), omega (arith, h)))) (denied (Ask 0))
+    rw (read_denied k c.args.q (λ l h. range_out c.in_range.ensures c.if-not-in_range.true-raw (omega (arith, l), omega (arith, h)))) (denied (Ask 0))
 
 pub returns : goal.returns
 returns c =
     let k = reads _ _ c.in_ok-t.ensures in
     let q = range_in c.in_range.ensures c.if-not-in_range.false-raw in
-    granted (table_of c.in_ok-t.t) (asked_granted k c.args.q (omega (arith, q.0)) (omega (arith, q.1))) k.good.tidy
+    granted (table_of c.in_ok-t.t) (read_granted k c.args.q (omega (arith, q.0)) (omega (arith, q.1))) k.good.tidy

@@ -25,12 +25,7 @@ returns-in_err-repeated_at c =
 pub read_op-w-requires : goal.read_op-w-requires
 read_op-w-requires c = omega (arith, (repeat_passed _ _ _ _ _ (sym c.in_ok-repeated_at.ensures)).0, c.size.ensures.0)
 
-pub range_test-requires : goal.range_test-requires
-range_test-requires c =
-    let whole = (repeat_passed _ _ _ _ _ (sym c.in_ok-repeated_at.ensures)).0 in
-    let high = op_within (sized c.args.counts) (is_some c.read_op-w.result.hold) (wide_of c.read_op-w.result) refl in
-    place_fits _ _ _ c.wide_wrong-wrong.ensures (omega (arith, high, whole, c.size.ensures.0, ap op_size c.read_op-w.ensures.1))
-
+-- before the need of the same call: a number that is told as another is refused here, where it fails
 pub returns-in_err-range_test : goal.returns-in_err-range_test
 returns-in_err-range_test c =
     let r = c.in_err-range_test.field-0.0 in
@@ -39,10 +34,16 @@ returns-in_err-range_test c =
     let judged = form_judged c.args.s.now c.args.at c.requires.1 T c.read_op-w.ensures.1 c.read_op-w.ensures.0 in
     let placed = subst (λ (n : ℕ). IsPlace c.wide_wrong-wrong.result n) judged c.wide_wrong-wrong.ensures in
     ap op_told (err_again c.from_residual-in_err-range_test.result r c.from_residual-in_err-range_test.ensures.1)
-    ∙ op_range T c.args.s.now c.args.left c.args.at fits c.in_ok-repeated_at.ensures r (c.in_err-range_test.ensures _ placed)
+    ∙ op_range T c.args.s.now c.args.left c.args.at fits c.in_ok-repeated_at.ensures r (c.in_err-range_test.ensures.ruled _ placed)
+
+pub range_test-requires : goal.range_test-requires
+range_test-requires c =
+    let whole = (repeat_passed _ _ _ _ _ (sym c.in_ok-repeated_at.ensures)).0 in
+    let high = op_within (sized c.args.counts) (is_some c.read_op-w.result.hold) (wide_of c.read_op-w.result) refl in
+    place_fits _ _ _ c.wide_wrong-wrong.ensures (omega (arith, high, whole, c.size.ensures.0, ap op_size c.read_op-w.ensures.1))
 
 pub narrow-requires : goal.narrow-requires
-narrow-requires c = ranged_fine _ c.args.at (c.in_ok-range_test.ensures _ c.wide_wrong-wrong.ensures)
+narrow-requires c = ranged_fine _ c.args.at (c.in_ok-range_test.ensures.ruled _ c.wide_wrong-wrong.ensures)
 
 pub returns : goal.returns
 returns c =
@@ -51,4 +52,4 @@ returns c =
     let judged = form_judged c.args.s.now c.args.at c.requires.1 T c.read_op-w.ensures.1 c.read_op-w.ensures.0 in
     let placed = subst (λ (n : ℕ). IsPlace c.wide_wrong-wrong.result n) judged c.wide_wrong-wrong.ensures in
     ap accepted (c.narrow.ensures ∙ form_read _ _ c.requires.1 c.read_op-w.ensures.0)
-    ∙ op_fine T c.args.s.now c.args.left c.args.at fits c.in_ok-repeated_at.ensures (c.in_ok-range_test.ensures _ placed)
+    ∙ op_fine T c.args.s.now c.args.left c.args.at fits c.in_ok-repeated_at.ensures (c.in_ok-range_test.ensures.ruled _ placed)

@@ -21,5 +21,5 @@ range_test-requires c =
 
 pub returns : goal.returns
 returns c =
-    c.range_test.ensures _ c.row_wrong.ensures
+    c.range_test.ensures.ruled _ c.row_wrong.ensures
     ∙ repeat_ranged _ _ _ _ _ _ _ c.in_ok-repeated_at.ensures (ap (row_wrong (ticks_of c.args.q)) c.row_at.ensures.0)

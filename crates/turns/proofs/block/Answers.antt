@@ -11,6 +11,7 @@ use Rattle.std.specs.Cmp.Lexicographic.{same_text}
 use Rattle.turns.specs.Turns.{tab, next_row, row_after}
 use Rattle.turns.specs.TurnLaws.{tab_suc, row_next, rows_block, length_row, still_on}
 use Rattle.turns.proofs.block.Goals as goal
+use Rattle.turns.proofs.block.Goals.{then-still, else-still}
 
 pub loop-entry-init : goal.loop-entry-init
 unfolding tab row_after
@@ -27,7 +28,10 @@ loop-entry-preserved c =
       long = rw e (length_row F i.last);
       last = rw (add-one, e, i.invariant.last) (row_next _ _ i.entry-index);
       rows = rw (add-one, take-suc-set, tab_suc, e, i.invariant.last, row_next, i.invariant.rows);
-      still = λ same. still_on F i.last _ e (same_text _ _ (sym same ∙ c.eq-still.ensures));
+      still = λ same. elim c.if-still.branch [
+        | then-still w ↦ still_on F i.last _ e (e ∙ i.invariant.still w.if-still.true)
+        | else-still w ↦ still_on F i.last _ e (same_text _ _ (sym same ∙ w.still-is ∙ w.eq-still.ensures))
+      ];
     }
 
 pub returns : goal.returns

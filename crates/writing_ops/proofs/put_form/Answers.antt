@@ -8,6 +8,15 @@ use Rattle.puts.specs.Puts.{stored}
 use Rattle.puts.specs.PutLaws.{stored_then}
 use Rattle.writing_ops.proofs.put_form.Goals as goal
 
+-- the form without a hold first: an edit of its length alone is refused here, where it fails
+pub returns : goal.returns
+returns c =
+    let size : c.size.result ≡ 18 = c.size.ensures.0 ∙ ap op_size c.if-held.false in
+    let e1 = c.put_header.ensures ∙ ap (λ (n : ℕ). stored c.args.out.now c.args.at (4 ∷ be16 n)) size in
+    let e2 = stored_then _ _ _ _ e1 refl c.put16.ensures in
+    let e3 = stored_then _ _ _ _ e2 refl c.put16-2.ensures in
+    rw c.if-held.false (stored_then _ _ _ _ e3 refl c.put_used-2.ensures)
+
 pub returns-then-held : goal.returns-then-held
 returns-then-held c =
     let size : c.size.result ≡ 20 = c.size.ensures.0 ∙ ap op_size c.if-held.true in
@@ -16,11 +25,3 @@ returns-then-held c =
     let e3 = stored_then _ _ _ _ e2 refl c.put16-2.ensures in
     let e4 = stored_then _ _ _ _ e3 refl c.put16-then-held.ensures in
     rw c.if-held.true (stored_then _ _ _ _ e4 refl c.put_used.ensures)
-
-pub returns : goal.returns
-returns c =
-    let size : c.size.result ≡ 18 = c.size.ensures.0 ∙ ap op_size c.if-held.false in
-    let e1 = c.put_header.ensures ∙ ap (λ (n : ℕ). stored c.args.out.now c.args.at (4 ∷ be16 n)) size in
-    let e2 = stored_then _ _ _ _ e1 refl c.put16.ensures in
-    let e3 = stored_then _ _ _ _ e2 refl c.put16-2.ensures in
-    rw c.if-held.false (stored_then _ _ _ _ e3 refl c.put_used-2.ensures)
