@@ -1,6 +1,6 @@
 -- Laws of the decider's field and of a decider that is handed over: each outcome, and the table that holds who was named.
 -- Assumes nothing.
-use Rattle.std.specs.Prelude.{ℕ, ◌+◌, ◌*◌, ◌<◌, ◌≤◌, ◌≡◌, ◌^◌, refl, List, leb, length, Option, None, Some, IfSome, Ok}
+use Rattle.std.specs.Prelude.{ℕ, ◌+◌, ◌*◌, ◌<◌, ◌≤◌, ◌≡◌, refl, List, leb, length, Option, None, Some, Ok}
 use Rattle.std.proofs.Common.{sym, ◌∙◌, arith, le-leb, leb-true, lt-ltb, le-ltb}
 use Rattle.std.proofs.Math.Path.{ap}
 use Rattle.std.proofs.lemmas.Bool.{lt-leb}
@@ -14,7 +14,7 @@ use Rattle.theory.proofs.Ranges.{ranged_yes, ranged_no}
 use Rattle.theory.proofs.Judging.{both, field_passed, decider_row, nothing_row}
 use Rattle.fields.specs.Verdicts.{refusal_of}
 use Rattle.fields.specs.declared.Refusal.{Refusal}
-use Rattle.fields.specs.Fields.{field_of, IsPlace}
+use Rattle.fields.specs.Fields.{field_of}
 use Rattle.fields.specs.FieldLaws.{field_bad, field_ranged}
 use Rattle.fields.specs.RefusalLaws.{then_refusal}
 use Rattle.widths.specs.WidthLaws.{size_least}
@@ -23,8 +23,6 @@ use Rattle.table.specs.TableLaws.{nops_count}
 use Rattle.table.specs.JudgedLaws.{granted}
 use Rattle.table.specs.declared.Table.{Table}
 use Rattle.deciders.specs.Deciders.{behind_of, handed_of}
-
--- ---- where the number is wrong: at the field's number, and the place is no large one
 
 -- ---- nothing is due behind the field
 
